@@ -1,0 +1,2 @@
+-- The laws of the costs that are kept.
+pub mod Laws

@@ -1,0 +1,37 @@
+-- The exchange over lent lists: the log `&mut [Trade]`, and a tick's table `&[Quote]`. Definitions only.
+use Prim.Native.Nat.{ℕ}
+use mathlib.Core.Bool.{not, _||_}
+use mathlib.Core.List.{List, _∷_}
+use lib.Dec.{eqb}
+use lib.ListN.{length}
+use Rattle.lists.specs.Lists.{stored}
+use Rattle.market.specs.Numbers.{Test, _draws_, drawn, unlessDrawn}
+use Rattle.market.specs.Quotes.{tableTests, rowFor}
+use Rattle.market.specs.declared.quote.Quote.{Quote}
+use Rattle.market.specs.declared.trade.Trade.{Trade}
+use Rattle.exchange.specs.State.{fresh, brokenOf, restingOf}
+use Rattle.exchange.specs.Tick.{tradesOf, ticked}
+use Rattle.exchange.specs.declared.state.UistV1.{UistV1}
+use Rattle.exchange.specs.declared.tick.TickAnswer.{TickAnswer}
+
+-- an exchange for a log
+abbrev pub openOf : List Trade → UistV1
+openOf log = fresh (length log)
+
+-- lender: 16 where the log's length is not that of the start, or where the counts do not hold together; then the rows: 1, 2, 3
+abbrev pub lentTests : UistV1 → List Quote → List Trade → List Test
+lentTests e rows log = ((not (eqb (length log) (e .counts .room)) || brokenOf (e .counts)) draws 16) ∷ tableTests 0 rows
+
+-- a tick answers how many orders traded; a refusal changes nothing
+unfoldable pub lentTick : UistV1 → List Quote → List Trade → TickAnswer
+lentTick e rows log =
+    let n = drawn (lentTests e rows log) in
+    record {
+      exchange = unlessDrawn n (ticked e (rowFor rows)) e;
+      traded = unlessDrawn n (length (tradesOf (rowFor rows) (restingOf e))) 0;
+      number = n;
+    }
+
+-- the new rows stand after the old ones; what lies past them is as it was, and a refusal leaves the log alone
+unfoldable pub lentLog : UistV1 → List Quote → List Trade → List Trade
+lentLog e rows log = unlessDrawn (drawn (lentTests e rows log)) (stored log (e .counts .logged) (tradesOf (rowFor rows) (restingOf e))) log

@@ -1,0 +1,128 @@
+-- Lists of an exchange's calls: the program's own definitions beside the plain ledger's orders, fed the same calls. Definitions only.
+use Prim.Native.Nat.{ℕ, suc, _+_}
+use mathlib.Core.Bool.{Bool, true, false}
+use mathlib.Core.Path.{_≡_}
+use mathlib.Core.List.{List, [], _∷_, _++_}
+use mathlib.Core.Option.{Option, none, some}
+use lib.Dec.{eqb}
+use lib.ListN.{length}
+use Rattle.lists.specs.Lists.{over}
+use Rattle.market.specs.Numbers.{Test, _draws_, drawn, unlessDrawn}
+use Rattle.market.specs.Orders.{orderTests}
+use Rattle.market.specs.Quotes.{tableTests}
+use Rattle.market.specs.declared.order.Order.{Order}
+use Rattle.market.specs.declared.quote.Quote.{Quote}
+use Rattle.market.specs.declared.trade.Trade.{Trade}
+use Rattle.orders.specs.Orders as Ledger
+use Rattle.orders.specs.Orders.{Fate, resting, traded, deleted, Entry, Orders, noOrders, restingIn, takeOn, erase, fillsOf}
+use Rattle.orders.specs.Claim.{Calls, Lived}
+use Rattle.exchange.specs.State.{restingOf, waitingOf}
+use Rattle.exchange.specs.Insert.{insertOf}
+use Rattle.exchange.specs.Delete.{deleteOf}
+use Rattle.exchange.specs.Lent.{openOf, lentTick, lentLog}
+use Rattle.exchange.specs.declared.state.Booked.{Booked}
+use Rattle.exchange.specs.declared.state.UistV1.{UistV1}
+
+-- an exchange's calls
+pub data Call : Type 0 where
+  insert : Order → Call
+  delete : ℕ → Call
+  tick : List Quote → Call
+
+-- what a call answers: how many orders traded, and the number drawn, or 0
+pub record Answer : Type 0 where
+  pub traded : ℕ
+  pub number : ℕ
+
+-- ---- the program: each call finds the exchange and the log as the last call left them
+
+pub record Held : Type 0 where
+  pub exchange : UistV1
+  pub log : List Trade
+
+abbrev pub opened : List Trade → Held
+opened log = record { exchange = openOf log; log = log }
+
+abbrev pub step : Held → Call → Held
+step s (insert o) = record { exchange = insertOf (s .exchange) o .exchange; log = s .log }
+step s (delete n) = record { exchange = deleteOf (s .exchange) n .exchange; log = s .log }
+step s (tick rows) = record { exchange = lentTick (s .exchange) rows (s .log) .exchange; log = lentLog (s .exchange) rows (s .log) }
+
+abbrev pub answer : Held → Call → Answer
+answer s (insert o) = record { traded = 0; number = insertOf (s .exchange) o .number }
+answer s (delete n) = record { traded = 0; number = deleteOf (s .exchange) n .number }
+answer s (tick rows) =
+    let r = lentTick (s .exchange) rows (s .log) in
+    record { traded = r .traded; number = r .number }
+
+abbrev pub run : Held → List Call → Held
+run s [] = s
+run s (c ∷ cs) = run (step s c) cs
+
+abbrev pub answers : Held → List Call → List Answer
+answers s [] = []
+answers s (c ∷ cs) = answer s c ∷ answers (step s c) cs
+
+-- ---- the ledger, for a log of `room` rows
+
+-- 1, 2, 10 orders taken = log length, 11 resting + waiting = 1,024, by the ledger's fields
+abbrev pub takeTests : ℕ → Orders → Order → List Test
+takeTests room b o =
+    orderTests o ++
+    (eqb (length (b .booked) + length (b .waiting)) room draws 10) ∷
+    (eqb (restingIn (b .booked) + length (b .waiting)) 1024 draws 11) ∷ []
+
+abbrev pub ledgerStep : ℕ → Orders → Call → Orders
+ledgerStep room b (insert o) = unlessDrawn (drawn (takeTests room b o)) (takeOn o b) b
+ledgerStep room b (delete n) = erase n b
+ledgerStep room b (tick rows) = unlessDrawn (drawn (tableTests 0 rows)) (Ledger.tick rows b) b
+
+abbrev pub ledgerAnswer : ℕ → Orders → Call → Answer
+ledgerAnswer room b (insert o) = record { traded = 0; number = drawn (takeTests room b o) }
+ledgerAnswer room b (delete n) = record { traded = 0; number = 0 }
+ledgerAnswer room b (tick rows) =
+    record { traded = unlessDrawn (drawn (tableTests 0 rows)) (length (fillsOf rows (b .booked))) 0; number = drawn (tableTests 0 rows) }
+
+abbrev pub ledgerRun : ℕ → Orders → List Call → Orders
+ledgerRun room b [] = b
+ledgerRun room b (c ∷ cs) = ledgerRun room (ledgerStep room b c) cs
+
+abbrev pub ledgerAnswers : ℕ → Orders → List Call → List Answer
+ledgerAnswers room b [] = []
+ledgerAnswers room b (c ∷ cs) = ledgerAnswer room b c ∷ ledgerAnswers room (ledgerStep room b c) cs
+
+-- ---- the claim
+
+-- a tick is unrefused by its rows alone
+abbrev pub tradable : Call → Option (List Quote)
+tradable (insert o) = none
+tradable (delete n) = none
+tradable (tick rows) = unlessDrawn (drawn (tableTests 0 rows)) (some rows) none
+
+abbrev pub deletes : ℕ → Call → Bool
+deletes n (insert o) = false
+deletes n (delete m) = eqb n m
+deletes n (tick rows) = false
+
+abbrev pub exchangeCalls : Calls
+exchangeCalls = record { Call = Call; tradable = tradable; deletes = deletes }
+
+-- the ledger's resting orders with their numbers
+abbrev pub restOf : Fate → ℕ → Order → List Booked → List Booked
+restOf resting n o l = record { number = n; order = o } ∷ l
+restOf (traded x) n o l = l
+restOf deleted n o l = l
+
+abbrev pub restingFrom : ℕ → List Entry → List Booked
+restingFrom n [] = []
+restingFrom n (e ∷ l) = restOf (e .fate) n (e .order) (restingFrom (suc n) l)
+
+-- what holds of every list of calls on a fresh exchange for the log l₀:
+-- each order has traded exactly when it could, once, in the first tick that could trade it, at that row, and the trades are these, tick by tick;
+-- every answer is the ledger's; the log has the trades in order, then its old rows; the resting orders with their numbers and the waiting ones are the ledger's
+pub record ExchangeRun (l₀ : List Trade) (cs : List Call) : Type 0 where
+  pub lived : Lived exchangeCalls (ledgerRun (length l₀) noOrders) cs
+  pub answered : answers (opened l₀) cs ≡ ledgerAnswers (length l₀) noOrders cs
+  pub log : run (opened l₀) cs .log ≡ over (ledgerRun (length l₀) noOrders cs .trades) l₀
+  pub rest : restingOf (run (opened l₀) cs .exchange) ≡ restingFrom 0 (ledgerRun (length l₀) noOrders cs .booked)
+  pub wait : waitingOf (run (opened l₀) cs .exchange) ≡ ledgerRun (length l₀) noOrders cs .waiting

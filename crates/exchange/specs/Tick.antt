@@ -1,0 +1,143 @@
+-- A tick: document 01, section 3. Definitions only.
+use Prim.Native.Nat.{ℕ, suc, _+_, _-_, _%_, _^_}
+use mathlib.Core.Bool.{Bool, true, false, cond, Bool·beq}
+use mathlib.Core.List.{List, [], _∷_, _++_, map}
+use mathlib.Core.Option.{Option}
+use lib.Dec.{eqb}
+use lib.ListN.{length, take, drop, replicate}
+use Rattle.lists.specs.Lists.{over, keep, gather, given, holds}
+use Rattle.market.specs.Numbers.{Test, _draws_, drawn, unlessDrawn}
+use Rattle.market.specs.Orders.{isSell}
+use Rattle.market.specs.Quotes.{rowAt}
+use Rattle.market.specs.Trades.{blankTrade, tradeOn}
+use Rattle.market.specs.declared.order.Order.{Order}
+use Rattle.market.specs.declared.quote.Quote.{Quote}
+use Rattle.market.specs.declared.table.Table.{Table}
+use Rattle.market.specs.declared.trade.Trade.{Trade}
+use Rattle.exchange.specs.State.{brokenOf, restingOf, waitingOf}
+use Rattle.exchange.specs.declared.state.Booked.{Booked}
+use Rattle.exchange.specs.declared.state.Counts.{Counts}
+use Rattle.exchange.specs.declared.state.UistV1.{UistV1}
+use Rattle.exchange.specs.declared.tick.Executed.{Executed}
+use Rattle.exchange.specs.declared.tick.Booking.{Booking}
+use Rattle.exchange.specs.declared.tick.Ticked.{Ticked}
+use Rattle.exchange.specs.declared.tick.TickAnswer.{TickAnswer}
+
+unfoldable pub noTrades : List Trade
+noTrades = replicate 1024 blankTrade
+
+-- ---- trading. A table is what it has for each symbol: `rowAt t`, or `rowFor l` of a list of rows
+
+-- the trade of a booked order on the row for its symbol, where it makes one
+abbrev pub tradeAt : (ℕ → Option Quote) → Order → Option Trade
+tradeAt rows o = tradeOn (rows (o .symbol)) o
+
+-- a booked order that makes no trade stays
+abbrev pub stays : (ℕ → Option Quote) → Booked → Bool
+stays rows b = given (tradeAt rows (b .order)) true (λ x. false)
+
+-- the trades of booked orders, in book order
+abbrev pub tradesOf : (ℕ → Option Quote) → List Booked → List Trade
+tradesOf rows l = gather (λ b. holds (tradeAt rows (b .order))) l
+
+unfoldable pub executeOf : List Booked → ℕ → Table → Executed
+executeOf book resting t =
+    let l = take resting book in
+    record {
+      book = over (keep (stays (rowAt t)) l) book;
+      kept = length (keep (stays (rowAt t)) l);
+      trades = over (tradesOf (rowAt t) l) noTrades;
+      count = length (tradesOf (rowAt t) l);
+    }
+
+-- ---- booking
+
+-- the orders from one place of a book to another
+abbrev pub ordersIn : List Booked → ℕ → ℕ → List Order
+ordersIn book from until = map (λ b. b .order) (take (until - from) (drop from book))
+
+-- the sells, or the buys, in their order
+abbrev pub ofSide : Bool → List Order → List Order
+ofSide sells l = keep (λ o. Bool·beq (isSell (o .kind)) sells) l
+
+-- sells first, then buys, each in order of taking
+abbrev pub sellsFirst : List Order → List Order
+sellsFirst l = ofSide true l ++ ofSide false l
+
+-- the counter's next number: one more, modulo 2 ^ 64, which the length of no log reaches
+abbrev pub next : ℕ → ℕ
+next n = (n + 1) % 2 ^ 64
+
+-- the orders numbered from n on, and the counter after them
+abbrev pub numberFrom : ℕ → List Order → List Booked
+numberFrom n [] = []
+numberFrom n (o ∷ l) = record { number = n; order = o } ∷ numberFrom (next n) l
+
+abbrev pub counterAfter : ℕ → List Order → ℕ
+counterAfter n [] = n
+counterAfter n (o ∷ l) = counterAfter (next n) l
+
+-- a book with these orders behind those that rest
+unfoldable pub bookSideOf : Booking → List Order → Booking
+bookSideOf b l =
+    record {
+      book = over (take (b .at) (b .book) ++ numberFrom (b .number) l) (b .book);
+      at = b .at + length l;
+      number = counterAfter (b .number) l;
+    }
+
+unfoldable pub bookWaitingOf : List Booked → Counts → Booking → Booking
+bookWaitingOf old c b = bookSideOf b (sellsFirst (ordersIn old (c .resting) (c .resting + c .waits)))
+
+-- ---- the tick
+
+-- the book after a tick: what stays, then what waited, numbered from the counter
+abbrev pub tickedBook : UistV1 → (ℕ → Option Quote) → List Booked
+tickedBook e rows = keep (stays rows) (restingOf e) ++ numberFrom (e .counts .given) (sellsFirst (waitingOf e))
+
+-- a tick first trades booked orders in book order, then books the waiting ones
+unfoldable pub ticked : UistV1 → (ℕ → Option Quote) → UistV1
+ticked e rows =
+    let c = e .counts in
+    record {
+      book = over (tickedBook e rows) (e .book);
+      counts = record {
+        resting = length (tickedBook e rows);
+        waits = 0;
+        given = counterAfter (c .given) (sellsFirst (waitingOf e));
+        taken = c .taken;
+        logged = c .logged + length (tradesOf rows (restingOf e));
+        room = c .room;
+      };
+    }
+
+-- a refusal: the state as it was, no trades, and the number
+abbrev pub refusedWith : UistV1 → ℕ → Ticked
+refusedWith e n = record { exchange = e; trades = noTrades; count = 0; first = 0; number = n }
+
+abbrev pub tickDone : UistV1 → (ℕ → Option Quote) → Ticked
+tickDone e rows =
+    record {
+      exchange = ticked e rows;
+      trades = over (tradesOf rows (restingOf e)) noTrades;
+      count = length (tradesOf rows (restingOf e));
+      first = e .counts .logged;
+      number = 0;
+    }
+
+-- 16, then the number that the table's rows drew
+abbrev pub tickNumber : UistV1 → ℕ → ℕ
+tickNumber e fault = cond (brokenOf (e .counts)) 16 fault
+
+unfoldable pub tickOf : UistV1 → Table → Ticked
+tickOf e t =
+    let n = tickNumber e (t .fault) in
+    unlessDrawn n (tickDone e (rowAt t)) (refusedWith e n)
+
+-- 16 also where the log has another length than at the start
+unfoldable pub tickForOf : UistV1 → Table → ℕ → Ticked
+unfolding tickOf
+tickForOf e t n = cond (eqb n (e .counts .room)) (tickOf e t) (refusedWith e 16)
+
+abbrev pub answerOf : Ticked → TickAnswer
+answerOf x = record { exchange = x .exchange; traded = x .count; number = x .number }

@@ -1,0 +1,84 @@
+// Deletion: a resting order leaves the book.
+ghost use mathlib.Core.Path.{_≡_};
+ghost use Prim.Native.Nat.{_+_, _≤_, _<_};
+ghost use lib.ListN.{take};
+ghost use Rattle.lists.specs.Lists.{firstFrom};
+ghost use Rattle.exchange.specs.Delete.{hasNumber, placeIn, removedOf, deleteOf};
+use crate::state::Booked;
+use crate::state::UistV1;
+
+// The new state, and 16 or 0.
+pub struct Deleted {
+    pub exchange: UistV1,
+    pub number: u32,
+}
+
+// Where a number stands among the resting orders.
+enum Place {
+    At(usize),
+    Nowhere,
+}
+
+fn place_of(book: [Booked; 1024], resting: usize, order_id: u64) -> Place
+    requires { ⌜ resting ≤ 1024 ⌝ }
+    ensures { λ r. ⌜ placeIn r ≡ firstFrom 0 (hasNumber «order_id») (take resting book) ⌝ }
+{
+    let mut i: usize = 0;
+    while i < resting {
+        let b = book[i];
+        if b.number == order_id {
+            return Place::At(i);
+        }
+        i = i + 1;
+    }
+    Place::Nowhere
+}
+
+// The state without the resting order at a place: those behind it move up by one.
+fn removed(e: UistV1, at: usize) -> UistV1
+    requires { ⌜ (at < e .counts .resting) × (e .counts .resting + e .counts .waits ≤ 1024) ⌝ }
+    ensures { λ r. ⌜ r ≡ removedOf e at ⌝ }
+{
+    let c = e.counts;
+    let last = c.resting + c.waits - 1;
+    let mut s = e;
+    let mut i: usize = at;
+    while i < last {
+        let next = i + 1;
+        let b = s.book[next];
+        s.book[i] = b;
+        i = next;
+    }
+    s.counts.resting = c.resting - 1;
+    s
+}
+
+impl UistV1 {
+    // An unknown or waiting order: nothing.
+    pub fn delete_order(self, order_id: u64) -> Deleted
+        ensures { λ r. ⌜ r ≡ deleteOf self «order_id» ⌝ }
+    {
+        let c = self.counts;
+        if c.broken() {
+            return Deleted {
+                exchange: self,
+                number: 16,
+            };
+        }
+        let book = self.book;
+        let place = place_of(book, c.resting, order_id);
+        match place {
+            Place::At(i) => {
+                let s = removed(self, i);
+                Deleted {
+                    exchange: s,
+                    number: 0,
+                }
+            }
+            Place::Nowhere => Deleted {
+                exchange: self,
+                number: 0,
+            },
+        }
+    }
+}

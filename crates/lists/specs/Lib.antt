@@ -1,0 +1,2 @@
+-- The definitions over lists that the contracts cite.
+pub mod Lists

@@ -1,0 +1,53 @@
+// A table of quotes by symbol, made of rows that ascend.
+ghost use mathlib.Core.Path.{_≡_};
+ghost use lib.ListN.{take};
+ghost use Rattle.market.specs.Quotes.{emptyTable, tableOf};
+use crate::quote::Quote;
+
+// The row of a symbol stands at the symbol's place where `present` says so. `fault` is the number
+// that the first bad row drew, or 0.
+pub struct Table {
+    pub present: [bool; 256],
+    pub rows: [Quote; 256],
+    pub fault: u32,
+}
+
+impl Table {
+    pub fn empty() -> Table
+        ensures { λ r. ⌜ r ≡ emptyTable ⌝ }
+    {
+        let q = Quote::blank();
+        Table {
+            present: [false; 256],
+            rows: [q; 256],
+            fault: 0,
+        }
+    }
+
+    // The table of the first `n` rows. At most 256 rows ascend, so the 257th draws a number.
+    pub fn of(rows: [Quote; 257], n: usize) -> Table
+        ensures { λ r. ⌜ r ≡ tableOf (take n rows) ⌝ }
+    {
+        let mut t = Table::empty();
+        let mut least: u32 = 0;
+        let mut i: usize = 0;
+        while i < 257 {
+            if i >= n {
+                break;
+            }
+            let q = rows[i];
+            let fault = q.fault(least);
+            if fault != 0 {
+                t.fault = fault;
+                break;
+            }
+            let symbol = q.symbol;
+            let at = symbol as usize;
+            t.rows[at] = q;
+            t.present[at] = true;
+            least = symbol + 1;
+            i = i + 1;
+        }
+        t
+    }
+}

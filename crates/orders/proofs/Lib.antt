@@ -1,0 +1,4 @@
+-- The claim, proved of every ledger whose calls have the stated effect on orders.
+pub mod Shape
+pub mod Fates
+pub mod Lives
