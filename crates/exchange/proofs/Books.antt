@@ -1,27 +1,25 @@
 -- An exchange's state stands for the plain ledger's orders: the relation, and that insertions, deletions and ticks keep it. Assumes nothing.
-use Prim.Native.Nat.{ℕ, zero, suc, _+_, _-_, _%_, _^_, _≤_, _<_}
+use Prim.Native.Nat.{ℕ, suc, _+_, _-_, _^_, _≤_, _<_}
 use native.Mathlib.Nat.{mod-eq-of-lt}
 use native.Mathlib.Omega.{arith}
 use native.Mathlib.Numerals.{add-one}
-use mathlib.Core.Bool.{Bool, true, false, not, cond, Bool·beq}
+use mathlib.Core.Bool.{Bool, true, false, cond}
 use mathlib.Core.Path.{_≡_, refl, _∙_, sym, ap, ap₂, subst⁻¹}
 use mathlib.Core.List.{List, [], _∷_, _++_, map, append-assoc, map-append}
 use mathlib.Core.Option.{Option, none, some}
 use lib.Dec.{eqb}
-use lib.ListN.{length, take, drop, set, length-set, length-append, length-map, length-take, length-drop}
-use lib.Seq.{take-set-le, drop-set-add, take-suc-set, take-at, drop-at, take-add, take-append-seam, length-take-le, take-append-le, drop-append-le}
-use borrow.Author.Tests.{eqb-true, eqb-false, ne-eqb}
-use Rattle.lists.specs.Lists.{over, keep, gather, each, without, firstFrom, given, holds}
+use lib.ListN.{length, take, drop, set, length-set, length-append, length-map, length-drop}
+use lib.Seq.{take-set-le, drop-set-add, take-suc-set, take-at, drop-at, take-add, take-append-seam, length-take-le}
+use borrow.Author.Tests.{eqb-true, ne-eqb}
+use Rattle.lists.specs.Lists.{keep, each, without, firstFrom, given, holds}
 use Rattle.lists.proofs.Over.{length-over}
-use Rattle.lists.proofs.Keep.{keep-split}
 use Rattle.lists.proofs.Each.{length-each}
 use Rattle.lists.proofs.Without.{length-without, without-append}
-use Rattle.market.specs.Orders.{isSell}
 use Rattle.market.specs.Quotes.{rowFor}
 use Rattle.market.specs.declared.order.Order.{Order}
 use Rattle.market.specs.declared.quote.Quote.{Quote}
 use Rattle.market.specs.declared.trade.Trade.{Trade}
-use Rattle.orders.specs.Orders.{Fate, resting, traded, deleted, Entry, Orders, rests, restingIn, takeOn, cancelled, cancel, erase, tradeFor, filled, fill, rowsOf, fillsOf, ofSide, sellsFirst, fresh, tick}
+use Rattle.orders.specs.Orders.{Fate, resting, traded, deleted, Entry, Orders, rests, restingIn, takeOn, cancelled, cancel, erase, tradeFor, filled, fill, fillsOf, ofSide, sellsFirst, fresh, tick}
 use Rattle.exchange.specs.State.{restingOf, waitingOf}
 use Rattle.exchange.specs.Insert.{joined}
 use Rattle.exchange.specs.Delete.{hasNumber, removedOf}
@@ -29,6 +27,7 @@ use Rattle.exchange.specs.Tick.{stays, tradesOf, next, numberFrom, count
 use Rattle.exchange.specs.Runs.{restOf, restingFrom}
 use Rattle.exchange.specs.declared.state.Booked.{Booked}
 use Rattle.exchange.specs.declared.state.UistV1.{UistV1}
+use Rattle.exchange.proofs.Booking.{sides}
 
 -- ---- the resting orders with their numbers: their count, of lists joined, of orders just booked
 
@@ -183,16 +182,8 @@ fills-count t (e ∷ l) = by (e .fate) (tradeFor t (e .order)) (fills-count t l)
     by deleted (some x) ih = ih
 
 -- each order sells or buys
-sides-by : (b : Bool) (o : Order) (x y : List Order) (n : ℕ) → length x + length y ≡ n → length (cond (Bool·beq b true) (o ∷ x) x) + length (cond (Bool·beq b false) (o ∷ y) y) ≡ suc n
-sides-by true o x y n e = omega arith
-sides-by false o x y n e = omega arith
-
-sides : (l : List Order) → length (ofSide true l) + length (ofSide false l) ≡ length l
-sides [] = refl
-sides (o ∷ l) = sides-by (isSell (o .kind)) o (ofSide true l) (ofSide false l) (length l) (sides l)
-
-pub length-sellsFirst : (l : List Order) → length (sellsFirst l) ≡ length l
-length-sellsFirst l = length-append (ofSide true l) (ofSide false l) ∙ sides l
+pub length-sells-first : (l : List Order) → length (sellsFirst l) ≡ length l
+length-sells-first l = length-append (ofSide true l) (ofSide false l) ∙ sides l
 
 -- ---- the relation
 
@@ -321,7 +312,7 @@ module _ (e : UistV1) (room : ℕ) (b : Orders) (r : Books e room b) where
       let l = b .booked in
       let w = sellsFirst (b .waiting) in
       let k = tickedBook e (rowFor t) in
-      let news : length w ≡ length (b .waiting) = length-sellsFirst (b .waiting) in
+      let news : length w ≡ length (b .waiting) = length-sells-first (b .waiting) in
       let few : length l + length w < 2 ^ 64 = omega (arith, r .fit .room-left) in
       let same : length (map (fill t) l) ≡ length l = length-map l (fill t) in
       let is : k ≡ restingFrom 0 (map (fill t) l ++ map fresh w) =

@@ -1,38 +1,26 @@
 -- A tick for a lent log and a table read off lent rows is the one that specs/Lent.antt states, and its rows fit the log. Assumes nothing.
 use Prim.Native.Nat.{ℕ, zero, suc, _+_, _≤_}
 use native.Mathlib.Omega.{arith}
-use mathlib.Core.Bool.{Bool, true, false, not, cond, _||_}
+use mathlib.Core.Bool.{Bool, true, false, not, _||_}
 use mathlib.Core.Path.{_≡_, refl, _∙_, sym, ap, ap₂, subst, fun-ext}
-use mathlib.Core.List.{List, [], _∷_, _++_}
-use mathlib.Core.Option.{Option, none, some}
+use mathlib.Core.List.{List, _∷_}
 use lib.Dec.{eqb}
-use lib.ListN.{length, take, length-append, length-take}
+use lib.ListN.{length}
 use lib.Seq.{paste, paste-zero}
 use borrow.Author.Tests.{eqb-true}
-use Rattle.lists.specs.Lists.{over, stored, holds}
 use Rattle.lists.proofs.Over.{paste-over}
-use Rattle.market.specs.Numbers.{Test, _draws_, drawn, unlessDrawn}
+use Rattle.market.specs.Numbers.{_draws_, drawn, unlessDrawn}
 use Rattle.market.specs.Quotes.{tableTests, tableOf, rowAt, rowFor}
 use Rattle.market.specs.declared.quote.Quote.{Quote}
 use Rattle.market.specs.declared.trade.Trade.{Trade}
 use Rattle.market.proofs.Tables.{table-fault, table-row}
 use Rattle.exchange.specs.State.{brokenOf, restingOf}
-use Rattle.exchange.specs.Tick.{noTrades, tradeAt, tradesOf, tickDone, refusedWith, tickOf, tickForOf, answerOf}
+use Rattle.exchange.specs.Tick.{noTrades, tradesOf, tickDone, refusedWith, tickOf, tickForOf, answerOf}
 use Rattle.exchange.specs.Lent.{lentTests, lentTick, lentLog}
-use Rattle.exchange.specs.declared.state.Booked.{Booked}
 use Rattle.exchange.specs.declared.state.UistV1.{UistV1}
 use Rattle.exchange.specs.declared.tick.Ticked.{Ticked}
 use Rattle.exchange.proofs.Counting.{Sound, sound-facts}
-
--- no more trades than orders
-trades-few : (rows : ℕ → Option Quote) (l : List Booked) → length (tradesOf rows l) ≤ length l
-trades-few rows [] = omega arith
-trades-few rows (b ∷ l) =
-    omega (arith, length-append (holds (tradeAt rows (b .order))) (tradesOf rows l), one (tradeAt rows (b .order)), trades-few rows l)
-  where
-    one : (x : Option Trade) → length (holds x) ≤ 1
-    one none = omega arith
-    one (some t) = omega arith
+use Rattle.exchange.proofs.Executing.{few-executed}
 
 -- what a tick's answer x says of a lent log
 pub record TickFor (e : UistV1) (rows : List Quote) (log : List Trade) (x : Ticked) : Type 0 where
@@ -57,7 +45,7 @@ module _ (e : UistV1) (rows : List Quote) (log : List Trade) where
   done-for d same sound =
       let s : Sound (e .counts) = sound-facts (e .counts) sound in
       let few : length (tradesOf (rowFor rows) (restingOf e)) ≤ e .counts .resting =
-      omega (arith, trades-few (rowFor rows) (restingOf e), length-take (e .counts .resting) (e .book)) in
+      omega (arith, few-executed (rowFor rows) (e .book) (e .counts .resting)) in
       record {
         answer = rw d;
         few = omega (arith, s .together);

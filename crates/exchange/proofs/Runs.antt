@@ -1,17 +1,17 @@
 -- The theorem over lists of an exchange's calls: the program's definitions meet the ledger's, call by call, and the ledger has the claim.
 -- Assumes nothing.
-use Prim.Native.Nat.{ℕ, zero, suc, _+_, _≤_, _<_, _^_}
+use Prim.Native.Nat.{ℕ, zero, suc, _+_, _<_, _^_}
 use native.Mathlib.Omega.{arith}
-use mathlib.Core.Bool.{Bool, true, false, not, cond, _||_}
+use mathlib.Core.Bool.{true, false, not, _||_}
 use mathlib.Core.Path.{_≡_, refl, _∙_, sym, ap, ap₂, subst}
 use mathlib.Core.List.{List, [], _∷_, _++_}
-use mathlib.Core.Option.{Option, none, some}
+use mathlib.Core.Option.{none, some}
 use lib.Dec.{eqb}
-use lib.ListN.{length, take, replicate, length-append, length-replicate}
+use lib.ListN.{length, length-replicate}
 use borrow.Author.Tests.{eq-eqb, eqb-false}
 use Rattle.lists.specs.Lists.{over, stored}
 use Rattle.lists.proofs.Over.{length-over, stored-over}
-use Rattle.market.specs.Numbers.{Test, _draws_, drawn, unlessDrawn}
+use Rattle.market.specs.Numbers.{_draws_, drawn, unlessDrawn}
 use Rattle.market.specs.Orders.{orderTests}
 use Rattle.market.specs.Quotes.{tableTests, rowFor}
 use Rattle.market.specs.declared.order.Order.{Order}
@@ -20,19 +20,16 @@ use Rattle.market.specs.declared.trade.Trade.{Trade}
 use Rattle.market.proofs.Numbers.{order-numbered, append-none, none-drawn}
 use Rattle.orders.specs.Orders as Ledger
 use Rattle.orders.specs.Orders.{Orders, noOrders, restingIn, takeOn, erase, fillsOf}
-use Rattle.orders.specs.Claim.{Lived}
 use Rattle.orders.proofs.Shape.{Shape, Kept, kept, quiet, acting, erasing}
-use Rattle.orders.proofs.Fates.{Apart}
 use Rattle.orders.proofs.Lives as Lives
 use Rattle.exchange.specs.State.{fresh, blankBooked, brokenOf, restingOf}
 use Rattle.exchange.specs.Insert.{insertTests, joined, insertOf}
 use Rattle.exchange.specs.Delete.{deleteOf}
 use Rattle.exchange.specs.Tick.{tradesOf, ticked}
 use Rattle.exchange.specs.Lent.{lentTests, lentTick, lentLog}
-use Rattle.exchange.specs.Runs.{Call, insert, delete, tick, Answer, Held, opened, step, answer, run, answers, takeTests, ledgerStep, ledgerAnswer, ledgerRun, ledgerAnswers, tradable, deletes, exchangeCalls, ExchangeRun}
-use Rattle.exchange.specs.declared.state.UistV1.{UistV1}
-use Rattle.exchange.proofs.Counting.{Sound, sound-not-broken}
-use Rattle.exchange.proofs.Books.{Books, Fit, books-take, books-delete, books-trades, books-tick}
+use Rattle.exchange.specs.Runs.{Call, insert, delete, tick, Held, opened, step, answer, run, answers, takeTests, ledgerStep, ledgerAnswer, ledgerRun, ledgerAnswers, tradable, deletes, exchangeCalls, ExchangeRun}
+use Rattle.exchange.proofs.Counting.{sound-not-broken}
+use Rattle.exchange.proofs.Books.{Books, books-take, books-delete, books-trades, books-tick}
 
 -- ---- one call
 

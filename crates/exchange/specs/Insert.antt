@@ -1,5 +1,5 @@
 -- Insertion: document 01, section 3, and the sender's numbers of a direct insertion. Definitions only.
-use Prim.Native.Nat.{ℕ, _+_}
+use Prim.Native.Nat.{_+_}
 use mathlib.Core.List.{List, [], _∷_, _++_}
 use lib.Dec.{eqb}
 use lib.ListN.{set}

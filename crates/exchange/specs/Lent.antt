@@ -1,5 +1,4 @@
 -- The exchange over lent lists: the log `&mut [Trade]`, and a tick's table `&[Quote]`. Definitions only.
-use Prim.Native.Nat.{ℕ}
 use mathlib.Core.Bool.{not, _||_}
 use mathlib.Core.List.{List, _∷_}
 use lib.Dec.{eqb}

@@ -1,6 +1,6 @@
 -- Lists of an exchange's calls: the program's own definitions beside the plain ledger's orders, fed the same calls. Definitions only.
 use Prim.Native.Nat.{ℕ, suc, _+_}
-use mathlib.Core.Bool.{Bool, true, false}
+use mathlib.Core.Bool.{Bool, false}
 use mathlib.Core.Path.{_≡_}
 use mathlib.Core.List.{List, [], _∷_, _++_}
 use mathlib.Core.Option.{Option, none, some}

@@ -1,6 +1,6 @@
 -- The exchange's state, and the lender's 16 for an exchange. Definitions only.
 use Prim.Native.Nat.{ℕ, _+_}
-use mathlib.Core.Bool.{Bool, true, _||_}
+use mathlib.Core.Bool.{Bool, _||_}
 use mathlib.Core.List.{List, map}
 use lib.Dec.{ltb}
 use lib.ListN.{take, drop, replicate}

@@ -1,19 +1,20 @@
 -- A tick: document 01, section 3. Definitions only.
-use Prim.Native.Nat.{ℕ, suc, _+_, _-_, _%_, _^_}
-use mathlib.Core.Bool.{Bool, true, false, cond, Bool·beq}
+use Prim.Native.Nat.{ℕ, _+_, _-_, _%_, _^_}
+use mathlib.Core.Bool.{Bool, true, false, cond}
 use mathlib.Core.List.{List, [], _∷_, _++_, map}
 use mathlib.Core.Option.{Option}
 use lib.Dec.{eqb}
 use lib.ListN.{length, take, drop, replicate}
 use Rattle.lists.specs.Lists.{over, keep, gather, given, holds}
-use Rattle.market.specs.Numbers.{Test, _draws_, drawn, unlessDrawn}
-use Rattle.market.specs.Orders.{isSell}
+use Rattle.market.specs.Numbers.{unlessDrawn}
 use Rattle.market.specs.Quotes.{rowAt}
 use Rattle.market.specs.Trades.{blankTrade, tradeOn}
 use Rattle.market.specs.declared.order.Order.{Order}
 use Rattle.market.specs.declared.quote.Quote.{Quote}
 use Rattle.market.specs.declared.table.Table.{Table}
 use Rattle.market.specs.declared.trade.Trade.{Trade}
+-- sells first, then buys, each in order of taking: as the plain ledger books them
+pub use Rattle.orders.specs.Orders.{ofSide, sellsFirst}
 use Rattle.exchange.specs.State.{brokenOf, restingOf, waitingOf}
 use Rattle.exchange.specs.declared.state.Booked.{Booked}
 use Rattle.exchange.specs.declared.state.Counts.{Counts}
@@ -55,14 +56,6 @@ executeOf book resting t =
 -- the orders from one place of a book to another
 abbrev pub ordersIn : List Booked → ℕ → ℕ → List Order
 ordersIn book from until = map (λ b. b .order) (take (until - from) (drop from book))
-
--- the sells, or the buys, in their order
-abbrev pub ofSide : Bool → List Order → List Order
-ofSide sells l = keep (λ o. Bool·beq (isSell (o .kind)) sells) l
-
--- sells first, then buys, each in order of taking
-abbrev pub sellsFirst : List Order → List Order
-sellsFirst l = ofSide true l ++ ofSide false l
 
 -- the counter's next number: one more, modulo 2 ^ 64, which the length of no log reaches
 abbrev pub next : ℕ → ℕ

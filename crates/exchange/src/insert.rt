@@ -24,7 +24,11 @@ impl Counts {
         if self.resting > 1024 {
             return 0;
         }
-        if self.waits == 1024 - self.resting { 11 } else { 0 }
+        if self.waits == 1024 - self.resting {
+            11
+        } else {
+            0
+        }
     }
 
     // 16, 1, 2, 10 and 11, or 0.

@@ -1,5 +1,5 @@
 // The Uist v1 exchange by value: orders are inserted, deleted, and traded and booked by ticks.
-pub mod state;
-pub mod insert;
 pub mod delete;
+pub mod insert;
+pub mod state;
 pub mod tick;

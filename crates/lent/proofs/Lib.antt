@@ -8,9 +8,19 @@
 --   at the end what the `ensures` says, with the lengths of the lent lists;
 --   and the function's theorem, from these and the theorems of the functions that it calls.
 -- * The loops that load and store rows are proved once, for any row, in the crate `walks`: Load.antt and Store.antt.
--- * Rows.antt has a line for each struct that is lent, passed or answered, Callees.antt what is known of the covered functions that are called.
--- * Reading.antt has a law of lists. The laws of ticks and tables stand in the crates `exchange` and `market`.
+-- * Rows.antt and UistRows.antt have a line for each struct that is lent, passed or answered, Callees.antt and UistCallees.antt what is known of the covered
+--   functions that are called; the files with `Uist` are the broker's.
+-- * Reading.antt has a law of lists, Faults.antt laws of numbers drawn. The laws of ticks and tables stand in the crates `exchange` and `market`.
+-- * Folding.antt, Checked.antt, Sends.antt, Plans.antt and Updated.antt lead from what the broker's functions by value ensure to what is stated of lent lists.
 pub mod Reading
+pub mod Faults
+pub mod Folding
+pub mod Checked
+pub mod Sends
+pub mod Plans
+pub mod Updated
 pub mod Rows
+pub mod UistRows
 pub mod Callees
+pub mod UistCallees
 pub mod Contracts

@@ -1,9 +1,9 @@
 -- A function of each element and its place: lengths, equal functions, and what holds of every element and its place.
 -- Assumes nothing.
 use Prim.Native.Nat.{ℕ, zero, suc, _+_, _≤_, _<_}
-use mathlib.Core.Path.{_≡_, refl, ap, ap₂, sym, _∙_, subst}
+use mathlib.Core.Path.{_≡_, refl, ap, ap₂, subst}
 use mathlib.Core.List.{List, [], _∷_, _++_, map}
-use mathlib.Core.Option.{Option, some}
+use mathlib.Core.Option.{some}
 use native.Mathlib.Omega.{arith}
 use lib.ListN.{length, getElem?}
 use Rattle.lists.specs.Lists.{each, gather}

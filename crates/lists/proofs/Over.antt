@@ -2,11 +2,11 @@
 -- And rows stored in the middle of a list. Assumes nothing.
 use Prim.Native.Nat.{ℕ, zero, suc, _+_, _-_, _≤_, _<_}
 use mathlib.Core.Path.{_≡_, refl, ap, sym, _∙_}
-use mathlib.Core.List.{List, [], _∷_, _++_, append-assoc, append-nil}
+use mathlib.Core.List.{List, [], _∷_, _++_, append-assoc}
 use native.Mathlib.Numerals.{add-one}
 use native.Mathlib.Omega.{arith}
 use lib.ListN.{length, take, drop, set, getD, length-append, length-drop}
-use lib.Seq.{drop-cons, set-append-seam, getD-append-add, getD-drop, drop-append-add, drop-drop, take-at, paste, take-append-seam, drop-append-seam}
+use lib.Seq.{drop-cons, set-append-seam, getD-append-add, getD-drop, drop-append-add, drop-drop, take-at, paste, take-append-seam}
 use Rattle.lists.specs.Lists.{over, stored}
 
 module _ {A : Type 0} where

@@ -29,9 +29,9 @@ module _ (least : ℕ) (t : Table) (q : Quote) (l : List Quote) where
   unfolding tableFrom
   from-faulted d = drew (drawn (rowTests least q)) d
     where
-    drew : (n : ℕ) → (n ≡ 0 → ⊥) → unlessDrawn n (tableFrom (q .symbol + 1) (putRow t q) l) (faulted t n) ≡ faulted t n
-    drew zero d = absurd (d refl)
-    drew (suc n) d = refl
+      drew : (n : ℕ) → (n ≡ 0 → ⊥) → unlessDrawn n (tableFrom (q .symbol + 1) (putRow t q) l) (faulted t n) ≡ faulted t n
+      drew zero d = absurd (d refl)
+      drew (suc n) d = refl
 
 -- where the rows draw nothing, the first does not, nor do the others
 pub rows-none : (least : ℕ) (q : Quote) (l : List Quote) → drawn (tableTests least (q ∷ l)) ≡ 0 → (drawn (rowTests least q) ≡ 0) × (drawn (tableTests (q .symbol + 1) l) ≡ 0)
@@ -103,8 +103,8 @@ from-most least t (q ∷ l) zero h =
 from-most least t (q ∷ l) (suc k) h =
     most-by (drawn (rowTests least q)) t (tableFrom (q .symbol + 1) (putRow t q) (take (suc k) l)) (tableFrom (q .symbol + 1) (putRow t q) l)
     (λ e.
-      let a = row-ascends least q e in
-      from-most (q .symbol + 1) (putRow t q) l k (omega (arith, a .low)))
+    let a = row-ascends least q e in
+    from-most (q .symbol + 1) (putRow t q) l k (omega (arith, a .low)))
 
 -- no row after the 257th counts
 pub table-most : (l : List Quote) → tableOf (take 257 l) ≡ tableOf l
@@ -128,11 +128,12 @@ module _ (t : Table) (q : Quote) (n : ℕ) where
   put-same s h e =
       let p : q .symbol < length (t .present) = omega (arith, s .0) in
       let r : q .symbol < length (t .rows) = omega (arith, s .1) in
-      rw
-      (sym e,
-       lt-ltb (q .symbol) 256 h,
-       getD-set-same (t .present) (q .symbol) true false p,
-       getD-set-same (t .rows) (q .symbol) q noQuote r)
+      rw (
+        sym e,
+        lt-ltb (q .symbol) 256 h,
+        getD-set-same (t .present) (q .symbol) true false p,
+        getD-set-same (t .rows) (q .symbol) q noQuote r,
+      )
 
   -- the other symbols keep theirs
   put-other : (q .symbol ≡ n → ⊥) → rowAt (putRow t q) n ≡ rowAt t n

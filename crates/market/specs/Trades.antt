@@ -1,10 +1,8 @@
 -- Trades: document 01, section 3, for one order and the row for its symbol. Definitions only.
-use Prim.Native.Nat.{ℕ}
 use mathlib.Core.Bool.{Bool, true, false, cond}
 use mathlib.Core.Option.{Option, none, some}
 use lib.IntN.{pos}
 use lib.Ieee.{Float, binary64, le, mul}
-use Rattle.lists.specs.Lists.{given}
 use Rattle.market.specs.Orders.{zero64, isSell}
 use Rattle.market.specs.declared.order.OrderType.{OrderType}
 use Rattle.market.specs.declared.order.OrderType.the-variants.{MarketSell, MarketBuy, LimitSell, LimitBuy, StopSell, StopBuy}

@@ -8,8 +8,9 @@ use mathlib.Core.List.{List, [], _∷_, _++_}
 use mathlib.Core.Option.{Option, none, some}
 use Rattle.lists.specs.Lists.{given, All}
 use Rattle.market.specs.declared.order.Order.{Order}
+use Rattle.market.specs.declared.quote.Quote.{Quote}
 use Rattle.market.specs.declared.trade.Trade.{Trade}
-use Rattle.orders.specs.Orders.{Fate, resting, traded, deleted, Entry}
+use Rattle.orders.specs.Orders.{Fate, resting, traded, deleted, Entry, tradeFor}
 use Rattle.orders.specs.Claim.{Calls, tradeIn, eventOf, fateOf, CanTrade, FirstTrade, Life}
 use Rattle.orders.proofs.Shape.{moved}
 
@@ -60,15 +61,14 @@ module _ (K : Calls) where
   -- ---- and back
 
   module _ (a : Apart K) where
+    -- a call that deletes trades nothing
+    no-trade : (o : Order) (T : Option (List Quote)) (x : Trade) → T ≡ none → given T none (λ t. tradeFor t o) ≡ some x → ⊥
+    no-trade o none x t e = let z : _≡_ {A = ℕ} 0 1 = cc in omega arith
+    no-trade o (some r) x t e = let z : _≡_ {A = ℕ} 0 1 = cc in omega arith
+
     no-deletion-by : (o : Order) (n : ℕ) (c : K .Call) (x : Trade) → tradeIn K o c ≡ some x → (b : Bool) → K .deletes n c ≡ b → K .deletes n c ≡ false
     no-deletion-by o n c x e false d = d
-    no-deletion-by o n c x e true d = absurd (let t = a .apart n c d in let z : _≡_ {A = ℕ} 0 1 = clash t in omega arith)
-      where
-        clash : K .tradable c ≡ none → _≡_ {A = ℕ} 0 1
-        clash t = let s : none ≡ some x = sym (ap (λ T. given T none (λ u. tradeIn-on u)) t) ∙ e in cc
-          where
-            tradeIn-on : List Rattle.market.specs.declared.quote.Quote.Quote → Option Trade
-            tradeIn-on u = Rattle.orders.specs.Orders.tradeFor u o
+    no-deletion-by o n c x e true d = absurd (no-trade o (K .tradable c) x (a .apart n c d) e)
 
     no-deletion : (o : Order) (n : ℕ) (c : K .Call) (x : Trade) → tradeIn K o c ≡ some x → K .deletes n c ≡ false
     no-deletion o n c x e = no-deletion-by o n c x e (K .deletes n c) refl

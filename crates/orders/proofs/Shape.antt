@@ -3,7 +3,7 @@
 use Prim.Native.Nat.{ℕ}
 use mathlib.Core.Bool.{Bool, true, false, cond}
 use mathlib.Core.Path.{_≡_, refl, _∙_, sym, ap, ap₂}
-use mathlib.Core.List.{List, [], _∷_, _++_, map, append-nil}
+use mathlib.Core.List.{List, [], _++_, map, append-nil}
 use mathlib.Core.Option.{Option, none, some}
 use lib.Dec.{eqb}
 use Rattle.lists.specs.Lists.{gather, each, holds, given}
@@ -11,7 +11,7 @@ use Rattle.lists.proofs.Each.{each-same, each-none, each-map, each-each, gather
 use Rattle.market.specs.declared.order.Order.{Order}
 use Rattle.market.specs.declared.quote.Quote.{Quote}
 use Rattle.market.specs.declared.trade.Trade.{Trade}
-use Rattle.orders.specs.Orders.{Fate, resting, traded, deleted, Entry, Orders, rests, cancelled, cancel, erase, tradeFor, filled, fill, rowsOf, fillsOf, sellsFirst, fresh, tick}
+use Rattle.orders.specs.Orders.{Fate, resting, traded, deleted, Entry, Orders, rests, cancelled, cancel, erase, tradeFor, filled, fill, rowsOf, sellsFirst, fresh, tick}
 use Rattle.orders.specs.Claim.{Calls, tradeIn, eventOf}
 
 -- a fate after what a call makes of a resting order

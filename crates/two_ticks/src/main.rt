@@ -33,7 +33,8 @@ fn print_trade(t: Trade) {
     match typ {
         TradeType::Buy => io::write_all(1, b"buy"),
         TradeType::Sell => io::write_all(1, b"sell"),
-    };
+    }
+    ;
     io::write_all(1, b" of symbol ");
     io::print_decimal(1, t.symbol as u64);
     io::write_all(1, b": quantity ");

@@ -25,10 +25,11 @@ of-requires c κs = search needs
 returns-3 : tie.Need-returns-3
 unfolding tradeOn
 returns-3 c =
-    simp
-    (not-false (c .before .before .before .before .args .present) (c .before .before .before .if1 .left),
-     sym (c .before .before .meets-rule .ensures) ∙ not-false _ (c .before .if2 .left),
-     c .of .ensures)
+    simp (
+      not-false (c .before .before .before .before .args .present) (c .before .before .before .if1 .left),
+      sym (c .before .before .meets-rule .ensures) ∙ not-false _ (c .before .if2 .left),
+      c .of .ensures,
+    )
 
 pub execute-spec : {M : Type 1} → statement M
 execute-spec = tie.close (tie.spec returns meets-rule-requires returns-2 of-requires returns-3)

@@ -25,28 +25,31 @@ finite-requires-2 c κs = search needs
 returns-3 : tie.Need-returns-3
 unfolding drawn
 returns-3 c =
-    simp
-    (le-ltb _ _ (c .before .before .before .before .before .if1 .left),
-     sym (c .before .before .before .before .finite .ensures) ∙ not-false _ (c .before .before .before .if2 .left),
-     c .before .before .if3 .taken,
-     sym (c .before .finite2 .ensures) ∙ not-true _ (c .if4 .taken))
+    simp (
+      le-ltb _ _ (c .before .before .before .before .before .if1 .left),
+      sym (c .before .before .before .before .finite .ensures) ∙ not-false _ (c .before .before .before .if2 .left),
+      c .before .before .if3 .taken,
+      sym (c .before .finite2 .ensures) ∙ not-true _ (c .if4 .taken),
+    )
 
 returns-4 : tie.Need-returns-4
 unfolding drawn
 returns-4 c =
-    simp
-    (le-ltb _ _ (c .before .before .before .before .before .if1 .left),
-     sym (c .before .before .before .before .finite .ensures) ∙ not-false _ (c .before .before .before .if2 .left),
-     c .before .before .if3 .taken,
-     sym (c .before .finite2 .ensures) ∙ not-false _ (c .if4 .left))
+    simp (
+      le-ltb _ _ (c .before .before .before .before .before .if1 .left),
+      sym (c .before .before .before .before .finite .ensures) ∙ not-false _ (c .before .before .before .if2 .left),
+      c .before .before .if3 .taken,
+      sym (c .before .finite2 .ensures) ∙ not-false _ (c .if4 .left),
+    )
 
 returns-5 : tie.Need-returns-5
 unfolding drawn
 returns-5 c =
-    simp
-    (le-ltb _ _ (c .before .before .before .if1 .left),
-     sym (c .before .before .finite .ensures) ∙ not-false _ (c .before .if2 .left),
-     c .if3 .left)
+    simp (
+      le-ltb _ _ (c .before .before .before .if1 .left),
+      sym (c .before .before .finite .ensures) ∙ not-false _ (c .before .if2 .left),
+      c .if3 .left,
+    )
 
 pub fault-spec : {M : Type 1} → statement M
 fault-spec =

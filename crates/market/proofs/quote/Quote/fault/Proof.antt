@@ -25,28 +25,31 @@ is-price-requires-2 c κs = search needs
 returns-3 : tie.Need-returns-3
 unfolding drawn
 returns-3 c =
-    simp
-    (le-ltb _ _ (c .before .before .before .before .if1 .left),
-     sym (c .before .before .before .is-price .ensures) ∙ not-false _ (c .before .before .if2 .left),
-     sym (c .before .is-price2 .ensures) ∙ not-true _ (c .if3 .taken))
+    simp (
+      le-ltb _ _ (c .before .before .before .before .if1 .left),
+      sym (c .before .before .before .is-price .ensures) ∙ not-false _ (c .before .before .if2 .left),
+      sym (c .before .is-price2 .ensures) ∙ not-true _ (c .if3 .taken),
+    )
 
 returns-4 : tie.Need-returns-4
 unfolding drawn
 returns-4 c =
-    simp
-    (le-ltb _ _ (c .before .before .before .before .before .before .if1 .left),
-     sym (c .before .before .before .before .before .is-price .ensures) ∙ not-false _ (c .before .before .before .before .if2 .left),
-     sym (c .before .before .before .is-price2 .ensures) ∙ not-false _ (c .before .before .if3 .left),
-     lt-ltb _ _ (c .if4 .taken))
+    simp (
+      le-ltb _ _ (c .before .before .before .before .before .before .if1 .left),
+      sym (c .before .before .before .before .before .is-price .ensures) ∙ not-false _ (c .before .before .before .before .if2 .left),
+      sym (c .before .before .before .is-price2 .ensures) ∙ not-false _ (c .before .before .if3 .left),
+      lt-ltb _ _ (c .if4 .taken),
+    )
 
 returns-5 : tie.Need-returns-5
 unfolding drawn
 returns-5 c =
-    simp
-    (le-ltb _ _ (c .before .before .before .before .before .before .if1 .left),
-     sym (c .before .before .before .before .before .is-price .ensures) ∙ not-false _ (c .before .before .before .before .if2 .left),
-     sym (c .before .before .before .is-price2 .ensures) ∙ not-false _ (c .before .before .if3 .left),
-     le-ltb _ _ (c .if4 .left))
+    simp (
+      le-ltb _ _ (c .before .before .before .before .before .before .if1 .left),
+      sym (c .before .before .before .before .before .is-price .ensures) ∙ not-false _ (c .before .before .before .before .if2 .left),
+      sym (c .before .before .before .is-price2 .ensures) ∙ not-false _ (c .before .before .if3 .left),
+      le-ltb _ _ (c .if4 .left),
+    )
 
 pub fault-spec : {M : Type 1} → statement M
 fault-spec =

@@ -22,18 +22,20 @@ returns-2 c =
 returns-3 : tie.Need-returns-3
 unfolding drawn
 returns-3 c =
-    simp
-    (le-ltb _ _ (c .before .before .before .before .if1 .left),
-     sym (c .before .before .before .finite .ensures) ∙ not-false _ (c .before .before .if2 .left),
-     lt-ltb _ _ (c .if3 .taken))
+    simp (
+      le-ltb _ _ (c .before .before .before .before .if1 .left),
+      sym (c .before .before .before .finite .ensures) ∙ not-false _ (c .before .before .if2 .left),
+      lt-ltb _ _ (c .if3 .taken),
+    )
 
 returns-4 : tie.Need-returns-4
 unfolding drawn
 returns-4 c =
-    simp
-    (le-ltb _ _ (c .before .before .before .before .if1 .left),
-     sym (c .before .before .before .finite .ensures) ∙ not-false _ (c .before .before .if2 .left),
-     le-ltb _ _ (c .if3 .left))
+    simp (
+      le-ltb _ _ (c .before .before .before .before .if1 .left),
+      sym (c .before .before .before .finite .ensures) ∙ not-false _ (c .before .before .if2 .left),
+      le-ltb _ _ (c .if3 .left),
+    )
 
 pub fault-spec : {M : Type 1} → statement M
 fault-spec = tie.close (tie.spec returns finite-requires returns-2 returns-3 returns-4)

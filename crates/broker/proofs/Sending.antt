@@ -1,0 +1,341 @@
+-- An order's event by what its tests read, the counts that sends keep, and the loop that sends a list. Assumes nothing.
+use Prim.Native.Nat.{ℕ, zero, suc, _+_, _≤_, _<_, _%_}
+use mathlib.Core.Path.{_≡_, refl, ap, sym, _∙_}
+use mathlib.Core.Bool.{Bool, true, false, not, cond}
+use mathlib.Core.List.{List, [], _∷_, _++_, append-assoc, append-nil}
+use mathlib.Core.Option.{Option, none, some}
+use native.Mathlib.Omega.{arith}
+use native.Mathlib.Nat.{mod-eq-of-lt}
+use native.Mathlib.Numerals.{add-one}
+use borrow.Author.Tests.{ltb-true, ltb-false, lt-ltb, eqb-false}
+use lib.Dec.{ltb, eqb}
+use lib.Ieee.{Float, nan}
+use lib.ListN.{length, drop, set, getD, length-append, length-take, length-replicate, drop-of-length-le}
+use lib.Seq.{drop-cons, getD-take}
+use Rattle.lists.specs.Lists.{over, All}
+use Rattle.lists.proofs.Over.{over-more}
+use Rattle.costs.specs.declared.TradeCosts.{TradeCosts}
+use Rattle.market.specs.Numbers.{Test, _draws_, drawn, unlessDrawn}
+use Rattle.market.specs.Orders.{orderTests}
+use Rattle.market.specs.Quotes.{noQuote}
+use Rattle.market.specs.Trades.{rowIf}
+use Rattle.market.specs.declared.order.OrderType.the-variants.{MarketSell}
+use Rattle.market.specs.declared.order.Order.{Order}
+use Rattle.market.specs.declared.quote.Quote.{Quote}
+use Rattle.market.specs.declared.table.Table.{Table}
+use Rattle.market.proofs.Numbers.{Numbered, order-numbered, append-none, none-drawn}
+use Rattle.exchange.specs.Insert.{roomTests, takenOne, joined}
+use Rattle.exchange.specs.declared.state.Counts.{Counts}
+use Rattle.exchange.specs.declared.state.UistV1.{UistV1}
+use Rattle.exchange.proofs.Counting.{Sound, room-facts}
+use Rattle.rules.specs.Amounts.{isZero}
+use Rattle.rules.specs.Money.{unlessZero}
+use Rattle.rules.specs.Sends.{isMarket, poor, short, missing, sendTestsAt}
+use Rattle.broker.specs.State.{moneyOf}
+use Rattle.broker.specs.Send.{quoteIn, eventOf, eventAt, eventFor, pendingAfter, takenBy, sentOne, sentAll, eventsOf, noEvents, blankOrder, listed, SendsFit, sendAllOf}
+use Rattle.broker.specs.declared.state.Funds.{Funds}
+use Rattle.broker.specs.declared.state.Portfolio.{Portfolio}
+use Rattle.broker.specs.declared.state.UistBroker.{UistBroker}
+use Rattle.broker.specs.declared.send.OrderEvent.{OrderEvent}
+use Rattle.broker.specs.declared.send.Latest.{Latest}
+use Rattle.broker.specs.declared.send.Latest.the-variants.{At, Unquoted}
+use Rattle.broker.specs.declared.send.AtSymbol.{AtSymbol}
+use Rattle.broker.specs.declared.send.OrderList.{OrderList}
+use Rattle.broker.specs.declared.send.SentAll.{SentAll}
+use Rattle.broker.proofs.Drawing.{drawn-first, drawn-past}
+
+-- what a read past the end of an array of orders gives; no code reads there
+abbrev pub noOrder : Order
+noOrder = record { kind = MarketSell; priced = false; symbol = 0; shares = nan; price = nan }
+
+holds-first : (b : Bool) (n : ℕ) (l : List Test) → b ≡ true → drawn ((b draws n) ∷ l) ≡ n
+unfolding drawn
+holds-first b n l e = rw e
+
+fails-first : (b : Bool) (n : ℕ) (l : List Test) → b ≡ false → drawn ((b draws n) ∷ l) ≡ drawn l
+unfolding drawn
+fails-first b n l e = rw e
+
+send-numbered : (failed : Bool) (cash : Float) (quote : Option Quote) (holding : Option Float) (o : Order) → All Numbered (sendTestsAt failed cash quote holding o)
+send-numbered failed cash quote holding o = (tt, (tt, (tt, (tt, (tt, (tt, tt))))))
+
+-- ---- an order's event, test by test: n is what the order's own fields drew
+
+module _ (o : Order) (failed : Bool) (cash : Float) (x : AtSymbol) (c : Counts) (n : ℕ) (d : n ≡ drawn (orderTests o)) where
+  abbrev quote : Option Quote
+  quote = rowIf (x .present) (x .quote)
+
+  abbrev holding : Option Float
+  holding = unlessZero (x .holding)
+
+  abbrev later : List Test
+  later = sendTestsAt failed cash quote holding o ++ roomTests c
+
+  event-by : (e : OrderEvent) (m : ℕ) → e ≡ eventOf o m → drawn (orderTests o ++ later) ≡ m → e ≡ eventAt o failed cash x c
+  unfolding eventAt
+  event-by e m a h = a ∙ ap (eventOf o) (sym h)
+
+  pub event-order : (e : OrderEvent) → e ≡ eventOf o n → (n ≡ 0 → ⊥) → e ≡ eventAt o failed cash x c
+  event-order e a h = event-by e n a (sym (drawn-first (orderTests o) later (order-numbered o) n d h))
+
+  past-order : n ≡ 0 → drawn (orderTests o ++ later) ≡ drawn later
+  past-order z = drawn-past (orderTests o) later (order-numbered o) n d z
+
+  pub event-failed : (e : OrderEvent) → e ≡ eventOf o 4 → n ≡ 0 → failed ≡ true → e ≡ eventAt o failed cash x c
+  event-failed e a z f = event-by e 4 a (past-order z ∙ holds-first _ _ _ f)
+
+  -- past 1, 2 and 4, by the latest quote that was read
+  module _ (z : n ≡ 0) (f : failed ≡ false) (l : Latest) (r : quoteIn l ≡ quote) where
+    pub event-unquoted : (e : OrderEvent) → e ≡ eventOf o 5 → l ≡ Unquoted → e ≡ eventAt o failed cash x c
+    event-unquoted e a u = event-by e 5 a (past-order z ∙ fails-first _ _ _ f ∙ holds-first _ _ _ (ap missing (sym r ∙ ap quoteIn u)))
+
+    -- past 5
+    module _ (q : Quote) (t : l ≡ At q) where
+      there : quote ≡ some q
+      there = sym r ∙ ap quoteIn t
+
+      pub event-limit : (e : OrderEvent) → e ≡ eventOf o 6 → isMarket (o .kind) ≡ false → e ≡ eventAt o failed cash x c
+      event-limit e a m = event-by e 6 a (past-order z ∙ fails-first _ _ _ f ∙ fails-first _ _ _ (ap missing there) ∙ holds-first _ _ _ (ap not m))
+
+      -- past 6
+      module _ (m : isMarket (o .kind) ≡ true) where
+        past-limit : drawn (orderTests o ++ later) ≡ drawn ((poor cash o quote draws 7) ∷ (short o holding draws 8) ∷ (isZero (o .shares) draws 9) ∷ roomTests c)
+        past-limit = past-order z ∙ fails-first _ _ _ f ∙ fails-first _ _ _ (ap missing there) ∙ fails-first _ _ _ (ap not m)
+
+        poor-by : (b : Bool) → poor cash o (some q) ≡ b → poor cash o quote ≡ b
+        poor-by b h = ap (poor cash o) there ∙ h
+
+        pub event-poor : (e : OrderEvent) → e ≡ eventOf o 7 → poor cash o (some q) ≡ true → e ≡ eventAt o failed cash x c
+        event-poor e a h = event-by e 7 a (past-limit ∙ holds-first _ _ _ (poor-by true h))
+
+        pub event-short : (e : OrderEvent) → e ≡ eventOf o 8 → poor cash o (some q) ≡ false → short o holding ≡ true → e ≡ eventAt o failed cash x c
+        event-short e a h s = event-by e 8 a (past-limit ∙ fails-first _ _ _ (poor-by false h) ∙ holds-first _ _ _ s)
+
+        pub event-zero : (e : OrderEvent) → e ≡ eventOf o 9 → poor cash o (some q) ≡ false → short o holding ≡ false → isZero (o .shares) ≡ true → e ≡ eventAt o failed cash x c
+        event-zero e a h s k = event-by e 9 a (past-limit ∙ fails-first _ _ _ (poor-by false h) ∙ fails-first _ _ _ s ∙ holds-first _ _ _ k)
+
+        pub event-room : (e : OrderEvent) (j : ℕ) → e ≡ eventOf o j → poor cash o (some q) ≡ false → short o holding ≡ false → isZero (o .shares) ≡ false → j ≡ drawn (roomTests c) →
+            e ≡ eventAt o failed cash x c
+        event-room e j a h s k y =
+            event-by e j a (past-limit ∙ fails-first _ _ _ (poor-by false h) ∙ fails-first _ _ _ s ∙ fails-first _ _ _ k ∙ sym y)
+
+-- ---- the event by the broker's view
+
+-- what the arrays hold at a place
+abbrev pub atSymbol : Portfolio → ℕ → AtSymbol
+atSymbol p s = record { present = getD (p .latest .present) s false; quote = getD (p .latest .rows) s noQuote; holding = getD (p .funds .holding) s nan }
+
+module _ (b : UistBroker) (o : Order) where
+  abbrev testsOn : Option Quote → Option Float → List Test
+  testsOn quote holding = orderTests o ++ sendTestsAt (b .portfolio .funds .failed) (b .portfolio .funds .cash) quote holding o ++ roomTests (b .exchange .counts)
+
+  -- a symbol above 255 draws 1, whatever else is read
+  draws-1 : (l : List Test) → ltb (o .symbol) 256 ≡ false → drawn ((ltb 255 (o .symbol) draws 1) ∷ l) ≡ 1
+  draws-1 l h = let g = ltb-false (o .symbol) 256 h in holds-first _ _ l (lt-ltb 255 (o .symbol) (omega arith))
+
+  same-by : (t : Bool) → ltb (o .symbol) 256 ≡ t →
+      let x = atSymbol (b .portfolio) (o .symbol % 256) in
+      let y = atSymbol (b .portfolio) (o .symbol) in
+      drawn (testsOn (rowIf (x .present) (x .quote)) (unlessZero (x .holding)))
+      ≡ drawn (testsOn (cond t (rowIf (y .present) (y .quote)) none) (cond t (unlessZero (y .holding)) none))
+  same-by true h = rw (mod-eq-of-lt (ltb-true (o .symbol) 256 h))
+  same-by false h = draws-1 _ h ∙ sym (draws-1 _ h)
+
+  pub event-at : eventAt o (b .portfolio .funds .failed) (b .portfolio .funds .cash) (atSymbol (b .portfolio) (o .symbol % 256)) (b .exchange .counts) ≡ eventFor b o
+  unfolding eventAt eventFor
+  event-at = ap (eventOf o) (same-by (ltb (o .symbol) 256) refl)
+
+  -- an order that draws no number passed 10 and 11
+  room-past : (quote : Option Quote) (holding : Option Float) → drawn (testsOn quote holding) ≡ 0 → drawn (roomTests (b .exchange .counts)) ≡ 0
+  room-past quote holding e =
+      let f = b .portfolio .funds in
+      let a = append-none (orderTests o) _ (order-numbered o) e in
+      append-none (sendTestsAt (f .failed) (f .cash) quote holding o) (roomTests (b .exchange .counts)) (send-numbered (f .failed) (f .cash) quote holding o) (a .1) .1
+
+  pub room-drawn : eventFor b o .number ≡ 0 → drawn (roomTests (b .exchange .counts)) ≡ 0
+  unfolding eventFor
+  room-drawn e = room-past (moneyOf (b .portfolio) .latest (o .symbol)) (moneyOf (b .portfolio) .held (o .symbol)) e
+
+  -- ---- an order is taken, or nothing changes
+
+  taken-by : (n : ℕ) → n ≡ 0 → takenBy b o ≡ unlessDrawn n (takenBy b o) b
+  taken-by zero z = refl
+  taken-by (suc n) z = absurd (omega arith)
+
+  kept-by : (n : ℕ) → (n ≡ 0 → ⊥) → b ≡ unlessDrawn n (takenBy b o) b
+  kept-by zero h = absurd (h refl)
+  kept-by (suc n) h = refl
+
+  pub sent-taken-by : eventFor b o .number ≡ 0 → takenBy b o ≡ sentOne b o
+  unfolding sentOne
+  sent-taken-by z = taken-by (eventFor b o .number) z
+
+  pub sent-refused : (eventFor b o .number ≡ 0 → ⊥) → b ≡ sentOne b o
+  unfolding sentOne
+  sent-refused h = kept-by (eventFor b o .number) h
+
+-- ---- what sends keep of the counts
+
+module _ (P : Counts → Type 0) (one : (c : Counts) → P c → drawn (roomTests c) ≡ 0 → P (takenOne c)) where
+  keeps-by : (b : UistBroker) (o : Order) (n : ℕ) → (n ≡ 0 → P (takenOne (b .exchange .counts))) → P (b .exchange .counts) → P (unlessDrawn n (takenBy b o) b .exchange .counts)
+  keeps-by b o zero t p = t refl
+  keeps-by b o (suc n) t p = p
+
+  pub sent-keeps : (b : UistBroker) (o : Order) → P (b .exchange .counts) → P (sentOne b o .exchange .counts)
+  unfolding sentOne
+  sent-keeps b o p = keeps-by b o (eventFor b o .number) (λ z. one (b .exchange .counts) p (room-drawn b o z)) p
+
+  pub sent-all-keeps : (b : UistBroker) (l : List Order) → P (b .exchange .counts) → P (sentAll b l .exchange .counts)
+  sent-all-keeps b [] p = p
+  sent-all-keeps b (o ∷ l) p = sent-all-keeps (sentOne b o) l (sent-keeps b o p)
+
+one-sound : (c : Counts) → Sound c → drawn (roomTests c) ≡ 0 → Sound (takenOne c)
+one-sound c s z =
+    let r = room-facts c s z in
+    record { together = omega (arith, r .places); bounded = omega (arith, r .rows); numbers = omega (arith, s .numbers); logs = omega (arith, s .logs) }
+
+pub sent-sound : (b : UistBroker) (o : Order) → Sound (b .exchange .counts) → Sound (sentOne b o .exchange .counts)
+sent-sound = sent-keeps Sound one-sound
+
+pub sent-all-sound : (b : UistBroker) (l : List Order) → Sound (b .exchange .counts) → Sound (sentAll b l .exchange .counts)
+sent-all-sound = sent-all-keeps Sound one-sound
+
+-- the counts where one more order fits
+pub record OneFits (c : Counts) : Type 0 where
+  pub places : c .resting + c .waits < 1024
+  pub rows : c .taken < c .room
+
+pub one-fits : (c : Counts) → SendsFit c → drawn (roomTests c) ≡ 0 → OneFits c
+one-fits c s e =
+    let a = none-drawn (eqb (c .taken) (c .room)) 9 _ e in
+    let b = none-drawn (eqb (c .resting + c .waits) 1024) 10 _ (a .1) in
+    let t = eqb-false (c .taken) (c .room) (a .0) in
+    let n = eqb-false (c .resting + c .waits) 1024 (b .0) in
+    record { places = omega (arith, s .places); rows = omega (arith, s .rows) }
+
+taken-fits : (c : Counts) → SendsFit c → drawn (roomTests c) ≡ 0 → SendsFit (takenOne c)
+taken-fits c s z = let r = one-fits c s z in record { places = omega (arith, r .places); rows = omega (arith, r .rows) }
+
+pub sent-fits : (b : UistBroker) (o : Order) → SendsFit (b .exchange .counts) → SendsFit (sentOne b o .exchange .counts)
+sent-fits = sent-keeps SendsFit taken-fits
+
+pub sent-all-fits : (b : UistBroker) (l : List Order) → SendsFit (b .exchange .counts) → SendsFit (sentAll b l .exchange .counts)
+sent-all-fits = sent-all-keeps SendsFit taken-fits
+
+-- no fewer orders are taken after sends than before, and at most one more for each order sent
+pub taken-grows : (b : UistBroker) (l : List Order) → b .exchange .counts .taken ≤ sentAll b l .exchange .counts .taken
+taken-grows b l = sent-all-keeps (λ c. b .exchange .counts .taken ≤ c .taken) (λ c p z. omega arith) b l (omega arith)
+
+one-taken-by : (b : UistBroker) (o : Order) (n : ℕ) → unlessDrawn n (takenBy b o) b .exchange .counts .taken ≤ b .exchange .counts .taken + 1
+one-taken-by b o zero = omega arith
+one-taken-by b o (suc n) = omega arith
+
+one-taken : (b : UistBroker) (o : Order) → sentOne b o .exchange .counts .taken ≤ b .exchange .counts .taken + 1
+unfolding sentOne
+one-taken b o = one-taken-by b o (eventFor b o .number)
+
+pub sent-taken : (b : UistBroker) (l : List Order) → sentAll b l .exchange .counts .taken ≤ b .exchange .counts .taken + length l
+sent-taken b [] = omega arith
+sent-taken b (o ∷ l) = omega (arith, sent-taken (sentOne b o) l, one-taken b o)
+
+-- ---- the loop that sends a list
+
+-- the broker that the loop's variables make
+abbrev pub brokerOf : Table → TradeCosts → UistV1 → Funds → UistBroker
+brokerOf latest costs e f = record { exchange = e; portfolio = record { latest = latest; funds = f; costs = costs } }
+
+-- pending moved to p at an order's symbol
+abbrev pub expectingAs : Funds → Order → Float → Funds
+expectingAs f o p =
+    record {
+      holding = f .holding;
+      pending = set (f .pending) (o .symbol % 256) p;
+      awaited = set (f .awaited) (o .symbol % 256) true;
+      cash = f .cash;
+      failed = f .failed;
+    }
+
+module _ (b : UistBroker) (o : Order) (e : OrderEvent)
+    (a : e ≡ eventAt o (b .portfolio .funds .failed) (b .portfolio .funds .cash) (atSymbol (b .portfolio) (o .symbol % 256)) (b .exchange .counts)) where
+  pub event-for : e ≡ eventFor b o
+  event-for = a ∙ event-at b o
+
+  number-for : eventFor b o .number ≡ e .number
+  number-for = ap (λ (x : OrderEvent). x .number) (sym event-for)
+
+  -- an order that draws no number has a place in the book and a row in the log
+  pub fits-here : SendsFit (b .exchange .counts) → e .number ≡ 0 → OneFits (b .exchange .counts)
+  fits-here s z = one-fits (b .exchange .counts) s (room-drawn b o (number-for ∙ z))
+
+  pub takes-one : (x : UistV1) (f : Funds) (p : Float) → e .number ≡ 0 → x ≡ joined (b .exchange) o →
+      p ≡ pendingAfter o (getD (b .portfolio .funds .awaited) (o .symbol % 256) false) (getD (b .portfolio .funds .pending) (o .symbol % 256) nan) →
+      f ≡ expectingAs (b .portfolio .funds) o p → brokerOf (b .portfolio .latest) (b .portfolio .costs) x f ≡ sentOne b o
+  takes-one x f p z j m g =
+      ap (λ (y : UistV1). brokerOf (b .portfolio .latest) (b .portfolio .costs) y f) j
+      ∙ ap (λ (y : Funds). brokerOf (b .portfolio .latest) (b .portfolio .costs) (joined (b .exchange) o) y) (g ∙ ap (expectingAs (b .portfolio .funds) o) m)
+      ∙ sent-taken-by b o (number-for ∙ z)
+
+  pub passes-one : (x : UistV1) (f : Funds) → (e .number ≡ 0 → ⊥) → x ≡ b .exchange → f ≡ b .portfolio .funds →
+      brokerOf (b .portfolio .latest) (b .portfolio .costs) x f ≡ sentOne b o
+  passes-one x f h j g =
+      ap (λ (y : UistV1). brokerOf (b .portfolio .latest) (b .portfolio .costs) y f) j
+      ∙ ap (λ (y : Funds). brokerOf (b .portfolio .latest) (b .portfolio .costs) (b .exchange) y) g
+      ∙ sent-refused b o (λ z. h (sym number-for ∙ z))
+
+-- after i turns: the rest sent from here gives the whole, and its events stand behind those that are done
+pub record Inv (start : UistBroker) (list : OrderList) (b : UistBroker) (events : List OrderEvent) (i : ℕ) : Type 0 where
+  pub within : i ≤ 256
+  pub long : length (list .orders) ≡ 256
+  pub fits : SendsFit (b .exchange .counts)
+  pub done : List OrderEvent
+  pub counted : length done ≡ i
+  pub written : events ≡ over done noEvents
+  pub rest : sentAll b (drop i (listed list)) ≡ sentAll start (listed list)
+  pub answers : done ++ eventsOf b (drop i (listed list)) ≡ eventsOf start (listed list)
+
+pub starts : (b : UistBroker) (list : OrderList) (events : List OrderEvent) → length (list .orders) ≡ 256 → SendsFit (b .exchange .counts) → events ≡ noEvents → Inv b list b events 0
+starts b list events l s e = record { within = omega arith; long = l; fits = s; done = []; counted = refl; written = e; rest = refl; answers = refl }
+
+length-events : length noEvents ≡ 256
+unfolding noEvents
+length-events = length-replicate 256 (eventOf blankOrder 0)
+
+events-cons : (b : UistBroker) (o : Order) (l : List Order) → eventsOf b (o ∷ l) ≡ eventFor b o ∷ eventsOf (sentOne b o) l
+unfolding eventsOf
+events-cons b o l = refl
+
+module _ (start : UistBroker) (list : OrderList) (b : UistBroker) (events : List OrderEvent) (i : ℕ) (v : Inv start list b events i) where
+  abbrev here : Order
+  here = getD (list .orders) i noOrder
+
+  pub sends-one : i < 256 → i < list .count → (e : OrderEvent) (b′ : UistBroker) → e ≡ eventFor b here → b′ ≡ sentOne b here → Inv start list b′ (set events i e) (i + 1)
+  sends-one h k e b′ a m =
+      let l = listed list in
+      let low : i < length l = omega (arith, length-take (list .count) (list .orders), v .long) in
+      let read : getD l i noOrder ≡ here = getD-take (list .count) (list .orders) i noOrder k in
+      let first : drop i l ≡ here ∷ drop (i + 1) l = rw (add-one, drop-cons l i noOrder, read) in
+      record {
+        within = omega arith;
+        long = v .long;
+        fits = rw m (sent-fits b here (v .fits));
+        done = v .done ++ (e ∷ []);
+        counted = length-append (v .done) (e ∷ []) ∙ ap (λ (n : ℕ). n + 1) (v .counted);
+        written = ap (λ (z : List OrderEvent). set z i e) (v .written) ∙ over-more (v .done) noEvents i e (sym (v .counted)) (omega (arith, v .counted, length-events));
+        rest = ap (λ (y : UistBroker). sentAll y (drop (i + 1) l)) m ∙ ap (sentAll b) (sym first) ∙ v .rest;
+        answers = append-assoc (v .done) (e ∷ []) (eventsOf b′ (drop (i + 1) l))
+            ∙ ap (λ (y : OrderEvent). v .done ++ (y ∷ eventsOf b′ (drop (i + 1) l))) a
+            ∙ ap (λ (y : UistBroker). v .done ++ (eventFor b here ∷ eventsOf y (drop (i + 1) l))) m
+            ∙ ap (λ (z : List OrderEvent). v .done ++ z) (sym (events-cons b here (drop (i + 1) l)) ∙ ap (eventsOf b) (sym first))
+            ∙ v .answers;
+      }
+
+  -- at the loop's end nothing is left
+  pub all-sent : length (listed list) ≤ i → _≡_ {A = SentAll} (record { broker = b; events = events }) (sendAllOf start (listed list))
+  unfolding sendAllOf eventsOf
+  all-sent h =
+      let none : drop i (listed list) ≡ [] = drop-of-length-le (listed list) h in
+      let sent : b ≡ sentAll start (listed list) = ap (sentAll b) (sym none) ∙ v .rest in
+      let told : v .done ≡ eventsOf start (listed list)
+      = sym (append-nil (v .done)) ∙ ap (λ (z : List Order). v .done ++ eventsOf b z) (sym none) ∙ v .answers in
+      ap (λ (y : UistBroker). record { broker = y; events = events }) sent
+      ∙ ap (λ (z : List OrderEvent). record { broker = sentAll start (listed list); events = z }) (v .written ∙ ap (λ (z : List OrderEvent). over z noEvents) told)

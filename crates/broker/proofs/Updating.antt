@@ -1,0 +1,192 @@
+-- What a check leaves for an update's sends, and the three ends of an update: refused, 13, and sent. Assumes nothing.
+use Prim.Native.Nat.{ℕ, zero, suc, _<_, _≤_}
+use native.Mathlib.Omega.{arith}
+use mathlib.Core.Bool.{Bool, true, false, not, _||_, cond}
+use mathlib.Core.Path.{_≡_, refl, sym, ap, subst, _∙_}
+use mathlib.Core.List.{List}
+use mathlib.Core.Option.{Option, none, some}
+use lib.Dec.{eqb, ltb}
+use lib.Ieee.{Float}
+use lib.ListN.{length, length-take}
+use Rattle.lists.specs.Lists.{over, given}
+use Rattle.market.specs.Numbers.{unlessDrawn}
+use Rattle.market.specs.Orders.{zero64}
+use Rattle.market.specs.Quotes.{rowAt}
+use Rattle.market.specs.declared.order.Order.{Order}
+use Rattle.market.specs.declared.table.Table.{Table}
+use Rattle.market.specs.declared.trade.Trade.{Trade}
+use Rattle.exchange.specs.State.{brokenOf}
+use Rattle.exchange.specs.declared.state.Counts.{Counts}
+use Rattle.rules.specs.Amounts.{below}
+use Rattle.rules.specs.Values.{totalValue}
+use Rattle.rules.specs.Weights.{planOf}
+use Rattle.broker.specs.State.{moneyOf}
+use Rattle.broker.specs.Send.{sentAll, eventsOf, noEvents, listed, SendsFit, sendAllOf}
+use Rattle.broker.specs.Cash.{cashOf}
+use Rattle.broker.specs.Liquidate.{failing, salesOf, liquidatedBy, succeeds}
+use Rattle.broker.specs.Check.{failedOf, shortfall, rescuedBy, checkNumber, bookedBy, checkedBy, Checks}
+use Rattle.broker.specs.Weigh.{weighed, planIn}
+use Rattle.broker.specs.Update.{updateNumber, planAfter, weighedBy, Updates}
+use Rattle.broker.specs.declared.state.UistBroker.{UistBroker}
+use Rattle.broker.specs.declared.send.OrderEvent.{OrderEvent}
+use Rattle.broker.specs.declared.send.OrderList.{OrderList}
+use Rattle.broker.specs.declared.send.SentAll.{SentAll}
+use Rattle.broker.specs.declared.check.Checked.{Checked}
+use Rattle.broker.specs.declared.weigh.Weights.{Weights}
+use Rattle.broker.specs.declared.weigh.Plan.{Plan}
+use Rattle.broker.specs.declared.update.Lengths.{Lengths}
+use Rattle.broker.proofs.Drawing.{unless-some, unless-none}
+use Rattle.broker.proofs.Sending.{sent-all-fits}
+use Rattle.broker.proofs.Settling.{number-none, ticked-fits}
+
+-- ---- what is given where no number is drawn, and what may be missing
+
+module _ {A B : Type 0} (n : ℕ) (p : Option A) (a d : B) (g : A → B) (z : n ≡ 0) where
+  when-none : p ≡ none → unlessDrawn n (given p a g) d ≡ a
+  when-none e = unless-none n (given p a g) d z ∙ ap (λ (o : Option A). given o a g) e
+
+  when-some : (l : A) → p ≡ some l → unlessDrawn n (given p a g) d ≡ g l
+  when-some l e = unless-none n (given p a g) d z ∙ ap (λ (o : Option A). given o a g) e
+
+none-some : {A : Type 0} (p : Option A) (l : A) → p ≡ none → p ≡ some l → ⊥
+none-some p l e h = let z : _≡_ {A = ℕ} 0 1 = cc in omega arith
+
+same-some : {A : Type 0} (p : Option A) (l m : A) → p ≡ some l → p ≡ some m → l ≡ m
+same-some p l m e h = cc
+
+-- ---- a list holds its count of orders, or as many as there are places
+
+pub count-few : (l : OrderList) → length (l .orders) ≡ 256 → l .count < 256 → l .count ≡ length (listed l)
+count-few l w h = omega (arith, length-take (l .count) (l .orders))
+
+pub count-full : (l : OrderList) → length (l .orders) ≡ 256 → 256 ≤ l .count → 256 ≡ length (listed l)
+count-full l w h = omega (arith, length-take (l .count) (l .orders))
+
+-- ---- a shortfall's rescue keeps the counts where sends fit
+
+either-fits : (b c : UistBroker) (t : Bool) → SendsFit (b .exchange .counts) → SendsFit (c .exchange .counts) → SendsFit (cond t b c .exchange .counts)
+either-fits b c true p q = p
+either-fits b c false p q = q
+
+liquidated-by : (b c : UistBroker) (s : Option (List Order)) → SendsFit (b .exchange .counts) → SendsFit (c .exchange .counts) →
+    SendsFit (given s c (sentAll b) .exchange .counts)
+liquidated-by b c none p q = q
+liquidated-by b c (some l) p q = sent-all-fits b l p
+
+liquidated-fits : (b : UistBroker) (a : Float) → SendsFit (b .exchange .counts) → SendsFit (liquidatedBy b a .exchange .counts)
+unfolding liquidatedBy
+liquidated-fits b a p = liquidated-by b (failing b a) (salesOf b a) p (either-fits b _ (below (cashOf b) a) p p)
+
+rescued-fits : (b : UistBroker) → SendsFit (b .exchange .counts) → SendsFit (rescuedBy b .exchange .counts)
+unfolding rescuedBy failedOf
+rescued-fits b p =
+    let a = shortfall b in
+    let l = liquidated-fits b a p in
+    either-fits _ b (below (cashOf b) zero64) (either-fits (liquidatedBy b a) _ (succeeds (salesOf b a)) l l) p
+
+-- ---- the check of an update that draws no number
+
+none-by : (a e : Bool) (t f w : ℕ) → cond a 16 (cond e 15 (unlessDrawn t (unlessDrawn f w f) t)) ≡ 0 → cond a 16 (unlessDrawn t f t) ≡ 0
+none-by true e t f w z = absurd (omega arith)
+none-by false true t f w z = absurd (omega arith)
+none-by false false zero zero w z = refl
+none-by false false zero (suc f) w z = absurd (omega arith)
+none-by false false (suc t) f w z = absurd (omega arith)
+
+update-none : (c : Counts) (x : Lengths) (t f w : ℕ) → updateNumber c x t f w ≡ 0 → checkNumber c (x .log) t f ≡ 0
+unfolding updateNumber checkNumber
+update-none c x t f w z = none-by (not (eqb (x .log) (c .room)) || brokenOf c) (ltb (x .events) (x .weights)) t f w z
+
+checked-fits : (b : UistBroker) (t f : Table) (n : ℕ) → checkNumber (b .exchange .counts) n (t .fault) (f .fault) ≡ 0 → SendsFit (checkedBy b t f .exchange .counts)
+unfolding checkedBy
+checked-fits b t f n z =
+    rescued-fits (bookedBy b t f) (ticked-fits (b .exchange) (rowAt t) (number-none (b .exchange .counts) n (t .fault) (f .fault) z .0))
+
+-- ---- the update
+
+module _ (b : UistBroker) (t f : Table) (w : Weights) (x : Lengths) where
+  abbrev pub drew : ℕ
+  drew = updateNumber (b .exchange .counts) x (t .fault) (f .fault) (w .fault)
+
+  abbrev plan : Option (List Order)
+  plan = planAfter (checkedBy b t f) (weighed w)
+
+  pub refused : (k : ℕ) (trades : List Trade) (events : List OrderEvent) → k ≡ drew → (k ≡ 0 → ⊥) →
+      Updates b t f w x drew (record { broker = b; trades = trades; count = 0; first = 0; events = events; sent = 0; total = zero64; number = k })
+  refused k trades events e d =
+      let h : drew ≡ 0 → ⊥ = λ z. d (e ∙ z) in
+      record {
+        before = refl;
+        number = e ∙ sym (unless-some drew _ drew h);
+        broker = sym (unless-some drew _ b h);
+        trades = λ z. absurd (h z);
+        count = sym (unless-some drew _ 0 h);
+        first = sym (unless-some drew _ 0 h);
+        events = λ z l p. absurd (h z);
+        sent = sym (unless-some drew _ 0 h);
+        total = sym (unless-some drew _ zero64 h);
+      }
+
+  module _ (k : drew ≡ 0) (y : Checked) (v : Checks b t f (x .log) y) where
+    no-number : y .number ≡ 0
+    no-number = v .number ∙ update-none (b .exchange .counts) x (t .fault) (f .fault) (w .fault) k
+
+    checked : y .broker ≡ checkedBy b t f
+    checked = v .broker ∙ unless-none (y .number) (checkedBy b t f) b no-number
+
+    pub fits : SendsFit (y .broker .exchange .counts)
+    fits = subst (λ (z : UistBroker). SendsFit (z .exchange .counts)) (sym checked) (checked-fits b t f (x .log) (sym (v .number) ∙ no-number))
+
+    -- a number of the check is answered as it stands
+    answered : (n m : ℕ) → n ≡ unlessDrawn (y .number) m 0 → n ≡ unlessDrawn drew m 0
+    answered n m e = e ∙ unless-none (y .number) m 0 no-number ∙ sym (unless-none drew m 0 k)
+
+    module _ (p : Plan) (q : planIn p ≡ planOf (moneyOf (y .broker .portfolio)) (weighed w)) where
+      abbrev foundAs : Bool → Option (List Order)
+      foundAs z = cond z (some (listed (p .list))) none
+
+      planned : (z : Bool) → p .found ≡ z → plan ≡ foundAs z
+      planned z n = ap (λ (u : UistBroker). planAfter u (weighed w)) (sym checked) ∙ sym q ∙ ap foundAs n
+
+      -- 13: the check stands
+      pub stands : (events : List OrderEvent) → p .found ≡ false →
+          Updates b t f w x drew
+          (record { broker = y .broker; trades = y .trades; count = y .count; first = y .first; events = events; sent = 0; total = zero64; number = 13 })
+      unfolding weighedBy
+      stands events n =
+          let e = planned false n in
+          record {
+            before = refl;
+            number = sym (when-none drew plan 13 drew _ k e);
+            broker = checked ∙ sym (when-none drew plan (checkedBy b t f) b _ k e);
+            trades = λ z. v .trades no-number;
+            count = answered (y .count) _ (v .count);
+            first = answered (y .first) _ (v .first);
+            events = λ z l h. absurd (none-some plan l e h);
+            sent = sym (when-none drew plan 0 0 _ k e);
+            total = sym (when-none drew plan zero64 zero64 _ k e);
+          }
+
+      -- the plan's orders are sent
+      pub sends : p .found ≡ true → (s : SentAll) (m : ℕ) (g : Float) → s ≡ sendAllOf (y .broker) (listed (p .list)) → m ≡ length (listed (p .list)) →
+          g ≡ totalValue (moneyOf (y .broker .portfolio)) →
+          Updates b t f w x drew
+          (record { broker = s .broker; trades = y .trades; count = y .count; first = y .first; events = s .events; sent = m; total = g; number = 0 })
+      unfolding weighedBy sendAllOf
+      sends n s m g a d h =
+          let o = checkedBy b t f in
+          let l = listed (p .list) in
+          let e = planned true n in
+          let sent : s ≡ sendAllOf o l = a ∙ ap (λ (u : UistBroker). sendAllOf u l) checked in
+          record {
+            before = refl;
+            number = sym (when-some drew plan 13 drew (λ i. 0) k l e);
+            broker = ap (λ (u : SentAll). u .broker) sent ∙ sym (when-some drew plan o b (sentAll o) k l e);
+            trades = λ z. v .trades no-number;
+            count = answered (y .count) _ (v .count);
+            first = answered (y .first) _ (v .first);
+            events = λ z i r. ap (λ (u : SentAll). u .events) sent ∙ ap (λ (u : List Order). over (eventsOf o u) noEvents) (same-some plan l i e r);
+            sent = d ∙ sym (when-some drew plan 0 0 length k l e);
+            total = h ∙ ap (λ (u : UistBroker). totalValue (moneyOf (u .portfolio))) checked
+                ∙ sym (when-some drew plan zero64 zero64 (λ i. totalValue (moneyOf (o .portfolio))) k l e);
+          }

@@ -1,0 +1,19 @@
+-- `is_poor` meets its contract: a sale is never poor, and a buy by the test of cash. Assumes nothing.
+use mathlib.Core.Path.{sym, _∙_}
+use borrow.Author.Needs.{needs}
+use Rattle.broker.proofs.send.is_poor.Statement.{statement}
+use Rattle.broker.proofs.send.is_poor.Tie as tie
+
+is-sell-requires : tie.Need-is-sell-requires
+is-sell-requires c κs = search needs
+
+returns : tie.Need-returns
+returns c = search needs
+
+returns-2 : tie.Need-returns-2
+returns-2 c =
+    let buy = c .before .before in
+    simp (sym (buy .before .is-sell .ensures) ∙ buy .if1 .left)
+
+pub is-poor-spec : {M : Type 1} → statement M
+is-poor-spec = tie.close (tie.spec is-sell-requires returns returns-2)

@@ -1,0 +1,92 @@
+-- `UistBroker::build` meets its contract: its answer is decided by the costs' number, or else the table's. Assumes nothing.
+use Prim.Native.Nat.{ℕ, zero, suc}
+use mathlib.Core.Path.{_≡_, refl, ap, _∙_}
+use native.Mathlib.Omega.{arith}
+use borrow.Author.Needs.{needs}
+use Rattle.market.specs.Numbers.{drawn, unlessDrawn}
+use Rattle.market.specs.declared.table.Table.{Table}
+use Rattle.costs.specs.Kept.{costsOf}
+use Rattle.costs.specs.declared.TradeCosts.{TradeCosts}
+use Rattle.exchange.specs.State.{fresh}
+use Rattle.exchange.specs.declared.state.UistV1.{UistV1}
+use Rattle.broker.specs.State.{noFunds}
+use Rattle.broker.specs.Build.{costTests, noBroker, freshBroker, buildOf}
+use Rattle.broker.specs.declared.state.Funds.{Funds}
+use Rattle.broker.specs.declared.state.UistBroker.{UistBroker}
+use Rattle.broker.specs.declared.build.Built.{Built}
+use Rattle.broker.proofs.state.UistBroker.build.Statement.{statement}
+use Rattle.broker.proofs.state.UistBroker.build.Tie as tie
+
+module _ (costs : TradeCosts) (first : Table) (room : ℕ) where
+  -- the answer by its number
+  abbrev answer : ℕ → Built
+  answer n = record { broker = unlessDrawn n (freshBroker costs first room) noBroker; number = n }
+
+  -- the answer by the number that the costs draw
+  abbrev by-costs : ℕ → Built
+  by-costs k = answer (unlessDrawn k (first .fault) k)
+
+  by-drawn : (k : ℕ) → k ≡ drawn (costTests (costs .count) (costsOf costs)) → by-costs k ≡ buildOf costs first room
+  unfolding buildOf
+  by-drawn k d = ap by-costs d
+
+  refused : (b : UistBroker) (n : ℕ) → b ≡ noBroker → (n ≡ 0 → ⊥) → record { broker = b; number = n } ≡ answer n
+  refused b zero e h = absurd (h refl)
+  refused b (suc n) e h = ap (λ (x : UistBroker). record { broker = x; number = suc n }) e
+
+  bad-costs : (b : UistBroker) (k : ℕ) → b ≡ noBroker → (k ≡ 0 → ⊥) → record { broker = b; number = k } ≡ by-costs k
+  bad-costs b zero e h = absurd (h refl)
+  bad-costs b (suc k) e h = refused b (suc k) e h
+
+  good-costs : (k : ℕ) → k ≡ 0 → answer (first .fault) ≡ by-costs k
+  good-costs zero z = refl
+  good-costs (suc k) z = absurd (omega arith)
+
+  built : (x : UistV1) (f : Funds) (n : ℕ) → x ≡ fresh room → f ≡ noFunds → n ≡ 0 →
+      record { broker = record { exchange = x; portfolio = record { latest = first; funds = f; costs = costs } }; number = 0 } ≡ answer n
+  built x f n p q z = rw (p, q, z)
+
+cost-fault-requires : tie.Need-cost-fault-requires
+cost-fault-requires c κs = search needs
+
+no-broker-requires : tie.Need-no-broker-requires
+no-broker-requires c κs = search needs
+
+returns : tie.Need-returns
+returns c =
+    let fault = c .before .before .cost-fault in
+    bad-costs _ _ _ _ _ (c .no-broker .ensures) (c .before .if1 .taken) ∙ by-drawn _ _ _ _ (fault .ensures)
+
+no-broker-requires-2 : tie.Need-no-broker-requires-2
+no-broker-requires-2 c κs = search needs
+
+returns-2 : tie.Need-returns-2
+returns-2 c =
+    let else = c .before .before .before in
+    refused _ _ _ _ _ (c .no-broker2 .ensures) (c .before .if2 .taken) ∙ good-costs _ _ _ _ (else .if1 .left) ∙ by-drawn _ _ _ _ (else .before .cost-fault .ensures)
+
+new-requires : tie.Need-new-requires
+new-requires c κs = search needs
+
+none-requires : tie.Need-none-requires
+none-requires c κs = search needs
+
+returns-3 : tie.Need-returns-3
+returns-3 c =
+    let else = c .before .before .before .before in
+    built _ _ _ _ _ _ (c .before .new .ensures) (c .none .ensures) (c .before .before .if2 .left)
+    ∙ good-costs _ _ _ _ (else .if1 .left)
+    ∙ by-drawn _ _ _ _ (else .before .cost-fault .ensures)
+
+pub build-spec : {M : Type 1} → statement M
+build-spec =
+    tie.close
+    (tie.spec
+    cost-fault-requires
+    no-broker-requires
+    returns
+    no-broker-requires-2
+    returns-2
+    new-requires
+    none-requires
+    returns-3)

@@ -1,0 +1,121 @@
+-- `check` meets its contract: what its calls give, put together, is the check's definition.
+use Prim.Native.Nat.{ℕ, zero, suc, _≤_}
+use mathlib.Core.Bool.{false}
+use mathlib.Core.Path.{_≡_, refl, sym, ap, subst, _∙_}
+use mathlib.Core.List.{List, foldl}
+use native.Mathlib.Omega.{arith}
+use lib.ListN.{length, take}
+use borrow.Author.Needs.{needs}
+use Rattle.lists.proofs.Over.{take-over}
+use Rattle.market.specs.Quotes.{rowAt}
+use Rattle.market.specs.declared.table.Table.{Table}
+use Rattle.market.specs.declared.trade.Trade.{Trade}
+use Rattle.exchange.specs.State.{brokenOf, restingOf}
+use Rattle.exchange.specs.Tick.{noTrades, tradesOf, tickDone, tickOf}
+use Rattle.exchange.specs.declared.state.UistV1.{UistV1}
+use Rattle.exchange.specs.declared.tick.Ticked.{Ticked}
+use Rattle.broker.specs.State.{moneyOf}
+use Rattle.broker.specs.Send.{SendsFit}
+use Rattle.broker.specs.Liquidate.{heldCount}
+use Rattle.broker.specs.Check.{settleOne, mergeOf, rescuedBy, Rescues, checkNumber, bookedBy, checkedBy, Checks}
+use Rattle.broker.specs.declared.state.Funds.{Funds}
+use Rattle.broker.specs.declared.state.UistBroker.{UistBroker}
+use Rattle.broker.specs.declared.liquidate.Liquidated.{Liquidated}
+use Rattle.broker.proofs.Settling.{number-none, ticked-fits}
+use Rattle.broker.proofs.state.UistBroker.check.Statement.{statement}
+use Rattle.broker.proofs.state.UistBroker.check.Tie as tie
+
+tick-acts : (e : UistV1) (t : Table) → brokenOf (e .counts) ≡ false → t .fault ≡ 0 → tickOf e t ≡ tickDone e (rowAt t)
+unfolding tickOf
+tick-acts e t h k = rw (h, k)
+
+module _ (b : UistBroker) (t f : Table) (n : ℕ) where
+  abbrev number : ℕ
+  number = checkNumber (b .exchange .counts) n (t .fault) (f .fault)
+
+  refused : (k : ℕ) (trades : List Trade) → k ≡ number → (k ≡ 0 → ⊥) → Checks b t f n (record { broker = b; trades = trades; count = 0; first = 0; queued = 0; number = k })
+  refused zero trades e d = absurd (d refl)
+  refused (suc k) trades e d =
+      record { number = e; broker = refl; trades = λ z. absurd (d z); count = refl; first = refl; queued = omega arith }
+
+  module _ (k : number ≡ 0) (x : Ticked) (p : x ≡ tickOf (b .exchange) t) where
+    done : x ≡ tickDone (b .exchange) (rowAt t)
+    done =
+        let s = number-none (b .exchange .counts) n (t .fault) (f .fault) k in
+        p ∙ tick-acts (b .exchange) t (s .0) (s .1)
+
+    fits : SendsFit (x .exchange .counts)
+    fits =
+        let s = number-none (b .exchange .counts) n (t .fault) (f .fault) k in
+        subst (λ (y : Ticked). SendsFit (y .exchange .counts)) (sym done) (ticked-fits (b .exchange) (rowAt t) (s .0))
+
+    abbrev bookedAs : Ticked → Table → Funds → UistBroker
+    bookedAs y latest funds = record { exchange = y .exchange; portfolio = record { latest = latest; funds = funds; costs = b .portfolio .costs } }
+
+    module _ (l : Table) (q : l ≡ mergeOf (b .portfolio .latest) f) (g : Funds) (r : g ≡ foldl settleOne (b .portfolio .funds) (take (x .count) (x .trades))) where
+      booked : bookedAs x l g ≡ bookedBy b t f
+      booked =
+          let trades = tradesOf (rowAt t) (restingOf (b .exchange)) in
+          let all = r ∙ ap (λ (y : Ticked). foldl settleOne (b .portfolio .funds) (take (y .count) (y .trades))) done
+          ∙ ap (foldl settleOne (b .portfolio .funds)) (take-over trades noTrades (length trades) refl) in
+          ap (λ (y : Ticked). bookedAs y l g) done
+          ∙ ap (λ (y : Table). bookedAs (tickDone (b .exchange) (rowAt t)) y g) q
+          ∙ ap (bookedAs (tickDone (b .exchange) (rowAt t)) (mergeOf (b .portfolio .latest) f)) all
+
+      acted : (y : Liquidated) → Rescues (bookedAs x l g) y →
+          Checks b t f n (record { broker = y .broker; trades = x .trades; count = x .count; first = x .first; queued = y .queued; number = 0 })
+      unfolding checkedBy
+      acted y v =
+          record {
+            number = sym k;
+            broker = v .broker ∙ ap rescuedBy booked;
+            trades = λ z. ap (λ (w : Ticked). w .trades) done;
+            count = ap (λ (w : Ticked). w .count) done;
+            first = ap (λ (w : Ticked). w .first) done;
+            queued = subst (λ (z : UistBroker). y .queued ≤ heldCount (moneyOf (z .portfolio))) booked (v .queued);
+          }
+
+check-fault-requires : tie.Need-check-fault-requires
+check-fault-requires c κs = search needs
+
+tick-requires : tie.Need-tick-requires
+tick-requires c κs = search needs
+
+returns : tie.Need-returns
+returns c = refused _ _ _ _ _ _ (c .before .before .before .check-fault .ensures) (c .if1 .taken)
+
+merge-requires : tie.Need-merge-requires
+merge-requires c κs = search needs
+
+settle-requires : tie.Need-settle-requires
+settle-requires c κs = search needs
+
+-- no number is drawn
+none-drawn : (c : tie.Else1) →
+    let a = c .before .before .before .before .before .before .args in
+    number (a .self) (a .tradable) (a .fetched) (a .log-length) ≡ 0
+none-drawn c = sym (c .before .before .before .check-fault .ensures) ∙ c .if1 .left
+
+rebalance-cash-requires : tie.Need-rebalance-cash-requires
+rebalance-cash-requires c κs =
+    let e = c .before .before .before .before in
+    let a = e .before .before .before .before .before .before .args in
+    fits (a .self) (a .tradable) (a .fetched) (a .log-length) (none-drawn e) _ (e .before .before .tick .ensures)
+
+returns-2 : tie.Need-returns-2
+returns-2 c =
+    let m = c .before .before .before .before .before in
+    let e = m .before in
+    acted _ _ _ _ (none-drawn e) _ (e .before .before .tick .ensures) _ (m .merge .ensures) _ (c .before .before .before .before .settle .ensures) _ (c .before .rebalance-cash .ensures)
+
+pub check-spec : {M : Type 1} → statement M
+check-spec =
+    tie.close
+    (tie.spec
+    check-fault-requires
+    tick-requires
+    returns
+    merge-requires
+    settle-requires
+    rebalance-cash-requires
+    returns-2)

@@ -1,0 +1,52 @@
+-- The builder: document 01, section 4, and the builder's numbers. Definitions only.
+use Prim.Native.Nat.{ℕ}
+use mathlib.Core.Bool.{Bool, not}
+use mathlib.Core.List.{List, [], _∷_}
+use lib.Dec.{ltb}
+use lib.Ieee.Scale.{finite}
+use Rattle.market.specs.Numbers.{Test, _draws_, drawn, unlessDrawn}
+use Rattle.market.specs.Quotes.{emptyTable}
+use Rattle.market.specs.declared.table.Table.{Table}
+use Rattle.costs.specs.declared.BrokerCost.{BrokerCost}
+use Rattle.costs.specs.declared.BrokerCost.the-variants.{PerShare, PctOfValue, Flat}
+use Rattle.costs.specs.declared.TradeCosts.{TradeCosts}
+use Rattle.costs.specs.Kept.{costsOf, noCosts}
+use Rattle.exchange.specs.State.{fresh}
+use Rattle.broker.specs.State.{noFunds}
+use Rattle.broker.specs.declared.state.UistBroker.{UistBroker}
+use Rattle.broker.specs.declared.build.Built.{Built}
+
+abbrev pub isFinite : BrokerCost → Bool
+isFinite (PerShare x) = finite x
+isFinite (PctOfValue x) = finite x
+isFinite (Flat x) = finite x
+
+abbrev pub eachFinite : List BrokerCost → List Test
+eachFinite [] = []
+eachFinite (c ∷ l) = (not (isFinite c) draws 2) ∷ eachFinite l
+
+-- 14 more than 16 costs, then 2 for a cost
+abbrev pub costTests : ℕ → List BrokerCost → List Test
+costTests count l = (ltb 16 count draws 14) ∷ eachFinite l
+
+-- no broker is made: this one draws 16 at every call, since a number was given and none taken
+unfoldable pub noBroker : UistBroker
+unfolding fresh
+noBroker =
+    record {
+      exchange = record { book = fresh 0 .book; counts = record { resting = 0; waits = 0; given = 1; taken = 0; logged = 0; room = 0 } };
+      portfolio = record { latest = emptyTable; funds = noFunds; costs = noCosts };
+    }
+
+-- a fresh broker: the table's rows are the first latest quotes
+abbrev pub freshBroker : TradeCosts → Table → ℕ → UistBroker
+freshBroker costs first room = record { exchange = fresh room; portfolio = record { latest = first; funds = noFunds; costs = costs } }
+
+-- 14, 2, then 1 to 3 for the first table
+abbrev pub buildNumber : TradeCosts → ℕ → ℕ
+buildNumber costs fault = let n = drawn (costTests (costs .count) (costsOf costs)) in unlessDrawn n fault n
+
+unfoldable pub buildOf : TradeCosts → Table → ℕ → Built
+buildOf costs first room =
+    let n = buildNumber costs (first .fault) in
+    record { broker = unlessDrawn n (freshBroker costs first room) noBroker; number = n }

@@ -1,0 +1,42 @@
+-- Deposits and withdrawals on the program's state. Definitions only.
+use mathlib.Core.Bool.{cond}
+use lib.Ieee.{Float}
+use lib.Ieee.Scale.{finite}
+use Rattle.account.specs.declared.BrokerCashEvent.{BrokerCashEvent}
+use Rattle.account.specs.declared.BrokerCashEvent.the-variants.{WithdrawSuccess, WithdrawFailure, DepositSuccess, OperationFailure, NotFinite, Broken}
+use Rattle.exchange.specs.State.{brokenOf}
+use Rattle.rules.specs.Amounts.{plus, minus, below}
+use Rattle.broker.specs.Send.{withFunds}
+use Rattle.broker.specs.declared.state.Funds.{Funds}
+use Rattle.broker.specs.declared.state.UistBroker.{UistBroker}
+use Rattle.broker.specs.declared.cash.CashMoved.{CashMoved}
+
+abbrev pub cashFunds : Funds → Float → Funds
+cashFunds f x = record { holding = f .holding; pending = f .pending; awaited = f .awaited; cash = x; failed = f .failed }
+
+abbrev pub withCash : UistBroker → Float → UistBroker
+withCash b x = withFunds b (cashFunds (b .portfolio .funds) x)
+
+abbrev pub cashOf : UistBroker → Float
+cashOf b = b .portfolio .funds .cash
+
+abbrev pub answered : UistBroker → BrokerCashEvent → CashMoved
+answered b e = record { broker = b; event = e }
+
+-- 16, 2, 4; else what is done
+unfoldable pub cashMoved : UistBroker → Float → CashMoved → CashMoved
+cashMoved b a done =
+    cond (brokenOf (b .exchange .counts)) (answered b (Broken a))
+    (cond (finite a)
+    (cond (b .portfolio .funds .failed) (answered b (OperationFailure a)) done)
+    (answered b (NotFinite a)))
+
+-- a deposit is credited
+unfoldable pub depositOf : UistBroker → Float → CashMoved
+depositOf b a = cashMoved b a (answered (withCash b (plus a (cashOf b))) (DepositSuccess a))
+
+-- a withdrawal fails if above cash: 12
+unfoldable pub withdrawOf : UistBroker → Float → CashMoved
+withdrawOf b a =
+    cashMoved b a
+    (cond (below (cashOf b) a) (answered b (WithdrawFailure a)) (answered (withCash b (minus (cashOf b) a)) (WithdrawSuccess a)))

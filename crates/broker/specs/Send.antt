@@ -1,0 +1,130 @@
+-- Sends, direct insertions and deletions on the program's state. Definitions only.
+use Prim.Native.Nat.{ℕ, _+_, _≤_, _%_}
+use mathlib.Core.Bool.{Bool, true, false, cond}
+use mathlib.Core.List.{List, [], _∷_, _++_, foldl}
+use mathlib.Core.Option.{Option, none, some}
+use lib.Ieee.{Float, nan}
+use lib.ListN.{getD, set, take, replicate}
+use Rattle.lists.specs.Lists.{over, given}
+use Rattle.market.specs.Numbers.{drawn, unlessDrawn}
+use Rattle.market.specs.Orders.{zero64, marketOrder, orderTests}
+use Rattle.market.specs.Trades.{rowIf}
+use Rattle.market.specs.declared.order.OrderType.the-variants.{MarketSell}
+use Rattle.market.specs.declared.order.Order.{Order}
+use Rattle.market.specs.declared.quote.Quote.{Quote}
+use Rattle.exchange.specs.State.{brokenOf}
+use Rattle.exchange.specs.Insert as Exchange
+use Rattle.exchange.specs.Insert.{roomTests, joined}
+use Rattle.exchange.specs.Delete as Deletion
+use Rattle.exchange.specs.declared.state.Counts.{Counts}
+use Rattle.rules.specs.Amounts.{plus}
+use Rattle.rules.specs.Money.{unlessZero, effect}
+use Rattle.rules.specs.Sends.{sendTestsAt, sendTests}
+use Rattle.broker.specs.State.{pendingIf, moneyOf}
+use Rattle.broker.specs.declared.state.Funds.{Funds}
+use Rattle.broker.specs.declared.state.UistBroker.{UistBroker}
+use Rattle.broker.specs.declared.send.OrderEvent.{OrderEvent}
+use Rattle.broker.specs.declared.send.Sent.{Sent}
+use Rattle.broker.specs.declared.send.BrokerDeleted.{BrokerDeleted}
+use Rattle.broker.specs.declared.send.Latest.{Latest}
+use Rattle.broker.specs.declared.send.Latest.the-variants.{At, Unquoted}
+use Rattle.broker.specs.declared.send.AtSymbol.{AtSymbol}
+use Rattle.broker.specs.declared.send.OrderList.{OrderList}
+use Rattle.broker.specs.declared.send.SentAll.{SentAll}
+
+-- what a `Latest` says
+abbrev pub quoteIn : Latest → Option Quote
+quoteIn (At q) = some q
+quoteIn Unquoted = none
+
+-- the order with taken (0) or its number
+abbrev pub eventOf : Order → ℕ → OrderEvent
+eventOf o n = record { order = o; number = n }
+
+-- an order's event by what its tests read
+unfoldable pub eventAt : Order → Bool → Float → AtSymbol → Counts → OrderEvent
+eventAt o failed cash x c = eventOf o (drawn (orderTests o ++ sendTestsAt failed cash (rowIf (x .present) (x .quote)) (unlessZero (x .holding)) o ++ roomTests c))
+
+-- an order's event: 1, 2, 4 to 9 by the rules on what the broker holds, 10 and 11 by the exchange's counts
+unfoldable pub eventFor : UistBroker → Order → OrderEvent
+eventFor b o = eventOf o (drawn (sendTests (moneyOf (b .portfolio)) (roomTests (b .exchange .counts)) o))
+
+-- a symbol's pending quantity with an order's effect
+unfoldable pub pendingAfter : Order → Bool → Float → Float
+pendingAfter o awaited pending = given (pendingIf awaited pending) (effect o) (λ p. plus p (effect o))
+
+-- pending moves at the order's symbol
+abbrev pub expecting : Funds → Order → Funds
+expecting f o =
+    let s = o .symbol % 256 in
+    record {
+      holding = f .holding;
+      pending = set (f .pending) s (pendingAfter o (getD (f .awaited) s false) (getD (f .pending) s nan));
+      awaited = set (f .awaited) s true;
+      cash = f .cash;
+      failed = f .failed;
+    }
+
+abbrev pub withFunds : UistBroker → Funds → UistBroker
+withFunds b f = record { exchange = b .exchange; portfolio = record { latest = b .portfolio .latest; funds = f; costs = b .portfolio .costs } }
+
+-- an order that is taken waits on the exchange, and pending moves
+abbrev pub takenBy : UistBroker → Order → UistBroker
+takenBy b o =
+    record {
+      exchange = joined (b .exchange) o;
+      portfolio = record { latest = b .portfolio .latest; funds = expecting (b .portfolio .funds) o; costs = b .portfolio .costs };
+    }
+
+unfoldable pub sentOne : UistBroker → Order → UistBroker
+sentOne b o = unlessDrawn (eventFor b o .number) (takenBy b o) b
+
+-- a list's orders one after the other, and their events
+abbrev pub sentAll : UistBroker → List Order → UistBroker
+sentAll b l = foldl sentOne b l
+
+unfoldable pub eventsOf : UistBroker → List Order → List OrderEvent
+eventsOf b [] = []
+eventsOf b (o ∷ l) = eventFor b o ∷ eventsOf (sentOne b o) l
+
+abbrev pub blankOrder : Order
+blankOrder = marketOrder MarketSell 0 zero64
+
+unfoldable pub noEvents : List OrderEvent
+noEvents = replicate 256 (eventOf blankOrder 0)
+
+unfoldable pub noOrders : OrderList
+noOrders = record { orders = replicate 256 blankOrder; count = 0 }
+
+unfoldable pub oneOrder : Order → OrderList
+oneOrder o = record { orders = set (replicate 256 blankOrder) 0 o; count = 1 }
+
+-- the orders of a list
+abbrev pub listed : OrderList → List Order
+listed l = take (l .count) (l .orders)
+
+-- what counts must obey for sends to be booked in place: a tick keeps it, where it need not keep all that 16 asks
+pub record SendsFit (c : Counts) : Type 0 where
+  pub places : c .resting + c .waits ≤ 1024
+  pub rows : c .taken ≤ c .room
+
+unfoldable pub sendAllOf : UistBroker → List Order → SentAll
+sendAllOf b l = record { broker = sentAll b l; events = over (eventsOf b l) noEvents }
+
+-- 16, then the order's own event
+unfoldable pub sendOf : UistBroker → Order → Sent
+sendOf b o =
+    cond (brokenOf (b .exchange .counts))
+    (record { broker = b; event = eventOf o 16 })
+    (record { broker = sentOne b o; event = eventFor b o })
+
+-- direct insertions and deletions do not touch pending
+unfoldable pub insertOf : UistBroker → Order → Sent
+insertOf b o =
+    let r = Exchange.insertOf (b .exchange) o in
+    record { broker = record { exchange = r .exchange; portfolio = b .portfolio }; event = eventOf o (r .number) }
+
+unfoldable pub deleteOf : UistBroker → ℕ → BrokerDeleted
+deleteOf b n =
+    let r = Deletion.deleteOf (b .exchange) n in
+    record { broker = record { exchange = r .exchange; portfolio = b .portfolio }; number = r .number }

@@ -1,0 +1,117 @@
+// The builder.
+ghost use mathlib.Core.Path.{_≡_};
+ghost use Rattle.market.specs.Numbers.{drawn};
+ghost use Rattle.costs.specs.Kept.{costsOf};
+ghost use Rattle.broker.specs.Build.{isFinite, costTests, noBroker, buildOf};
+use crate::state::Funds;
+use crate::state::Portfolio;
+use crate::state::UistBroker;
+use costs::BrokerCost;
+use costs::TradeCosts;
+use exchange::state::Counts;
+use exchange::state::UistV1;
+use market::table::Table;
+
+// The broker, and the number drawn, or 0. Where a number is drawn no broker is made: what stands
+// there draws 16 at every call.
+pub struct Built {
+    pub broker: UistBroker,
+    pub number: u32,
+}
+
+fn is_finite(cost: BrokerCost) -> bool
+    ensures { λ r. ⌜ r ≡ isFinite cost ⌝ }
+{
+    match cost {
+        BrokerCost::PerShare(x) => floats::finite(x),
+        BrokerCost::PctOfValue(x) => floats::finite(x),
+        BrokerCost::Flat(x) => floats::finite(x),
+    }
+}
+
+// 14, then 2 for a cost, or 0.
+fn cost_fault(costs: TradeCosts) -> u32
+    ensures { λ r. ⌜ r ≡ drawn (costTests (costs .count) (costsOf costs)) ⌝ }
+{
+    if costs.count > 16 {
+        return 14;
+    }
+    let n = costs.count;
+    let mut i: usize = 0;
+    while i < n {
+        let c = costs.list[i];
+        let cost = c.cost;
+        if !is_finite(cost) {
+            return 2;
+        }
+        i = i + 1;
+    }
+    0
+}
+
+// A broker whose every call draws 16.
+fn no_broker() -> UistBroker
+    ensures { λ r. ⌜ r ≡ noBroker ⌝ }
+{
+    let fresh = UistV1::new(0);
+    let book = fresh.book;
+    let counts = Counts {
+        resting: 0,
+        waits: 0,
+        given: 1,
+        taken: 0,
+        logged: 0,
+        room: 0,
+    };
+    let exchange = UistV1 {
+        book: book,
+        counts: counts,
+    };
+    let latest = Table::empty();
+    let funds = Funds::none();
+    let costs = TradeCosts::none();
+    let portfolio = Portfolio {
+        latest: latest,
+        funds: funds,
+        costs: costs,
+    };
+    UistBroker {
+        exchange: exchange,
+        portfolio: portfolio,
+    }
+}
+
+impl UistBroker {
+    // A fresh broker for a log of `room` rows; the table's rows are the first latest quotes.
+    pub fn build(costs: TradeCosts, first: Table, room: u64) -> Built
+        ensures { λ r. ⌜ r ≡ buildOf costs first room ⌝ }
+    {
+        let fault = cost_fault(costs);
+        if fault != 0 {
+            return Built {
+                broker: no_broker(),
+                number: fault,
+            };
+        }
+        if first.fault != 0 {
+            return Built {
+                broker: no_broker(),
+                number: first.fault,
+            };
+        }
+        let exchange = UistV1::new(room);
+        let funds = Funds::none();
+        let portfolio = Portfolio {
+            latest: first,
+            funds: funds,
+            costs: costs,
+        };
+        Built {
+            broker: UistBroker {
+                exchange: exchange,
+                portfolio: portfolio,
+            },
+            number: 0,
+        }
+    }
+}

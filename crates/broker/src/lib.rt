@@ -1,0 +1,11 @@
+// The Uist v1 broker by value: cash, holdings and pending quantities over an exchange.
+pub mod build;
+pub mod cash;
+pub mod check;
+pub mod liquidate;
+pub mod read;
+pub mod send;
+pub mod state;
+pub mod update;
+pub mod value;
+pub mod weigh;

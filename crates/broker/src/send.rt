@@ -1,0 +1,295 @@
+// Sends: an order goes to the exchange, and pending moves.
+ghost use mathlib.Core.Path.{_≡_};
+ghost use mathlib.Core.Option.{some};
+ghost use Rattle.market.specs.Trades.{rowIf};
+ghost use Rattle.rules.specs.Money.{unlessZero};
+ghost use Rattle.rules.specs.Sends.{isMarket, poor, short};
+ghost use Rattle.broker.specs.Send.{quoteIn, eventOf, eventAt, pendingAfter, noEvents, noOrders, oneOrder, listed, SendsFit, sendAllOf, sendOf, insertOf, deleteOf};
+use crate::state::Portfolio;
+use crate::state::UistBroker;
+use exchange::state::Booked;
+use exchange::state::Counts;
+use market::order::Order;
+use market::order::OrderType;
+use market::quote::Quote;
+
+// The order, with 0 where it was taken or the number that it drew.
+pub struct OrderEvent {
+    pub order: Order,
+    pub number: u32,
+}
+
+pub struct Sent {
+    pub broker: UistBroker,
+    pub event: OrderEvent,
+}
+
+// The new state, and 16 or 0.
+pub struct BrokerDeleted {
+    pub broker: UistBroker,
+    pub number: u32,
+}
+
+// The latest quote of a symbol.
+pub enum Latest {
+    At(Quote),
+    Unquoted,
+}
+
+// Orders that a liquidation or the weights list: the first `count`.
+pub struct OrderList {
+    pub orders: [Order; 256],
+    pub count: usize,
+}
+
+// The new state, and the events of the orders sent in the first places.
+pub struct SentAll {
+    pub broker: UistBroker,
+    pub events: [OrderEvent; 256],
+}
+
+// What an order's tests read at its symbol: the latest row, if `present`, and the holding.
+pub struct AtSymbol {
+    pub present: bool,
+    pub quote: Quote,
+    pub holding: f64,
+}
+
+fn event(order: Order, number: u32) -> OrderEvent
+    ensures { λ r. ⌜ r ≡ eventOf order number ⌝ }
+{
+    OrderEvent {
+        order: order,
+        number: number,
+    }
+}
+
+fn latest_of(x: AtSymbol) -> Latest
+    ensures { λ r. ⌜ quoteIn r ≡ rowIf (x .present) (x .quote) ⌝ }
+{
+    if x.present {
+        let q = x.quote;
+        Latest::At(q)
+    } else {
+        Latest::Unquoted
+    }
+}
+
+fn is_market(o: Order) -> bool
+    ensures { λ r. ⌜ r ≡ isMarket (o .kind) ⌝ }
+{
+    let k = o.kind;
+    match k {
+        OrderType::MarketSell => true,
+        OrderType::MarketBuy => true,
+        OrderType::LimitSell => false,
+        OrderType::LimitBuy => false,
+        OrderType::StopSell => false,
+        OrderType::StopBuy => false,
+    }
+}
+
+// A buy that cash does not cover.
+fn is_poor(o: Order, cash: f64, q: Quote) -> bool
+    ensures { λ r. ⌜ r ≡ poor cash o (some q) ⌝ }
+{
+    if o.is_sell() {
+        return false;
+    }
+    !(cash > o.shares * q.ask)
+}
+
+// A sale of more than is held of a held symbol.
+fn is_short(o: Order, holding: f64) -> bool
+    ensures { λ r. ⌜ r ≡ short o (unlessZero holding) ⌝ }
+{
+    if !o.is_sell() {
+        return false;
+    }
+    if holding == 0.0 {
+        return false;
+    }
+    !(holding >= o.shares)
+}
+
+// The event of an order in a broker that does not draw 16: 1, 2, 4 to 11, or 0.
+fn send_event(o: Order, failed: bool, cash: f64, x: AtSymbol, counts: Counts) -> OrderEvent
+    ensures { λ r. ⌜ r ≡ eventAt o failed cash x counts ⌝ }
+{
+    let fault = o.fault();
+    if fault != 0 {
+        return event(o, fault);
+    }
+    if failed {
+        return event(o, 4);
+    }
+    let Latest::At(q) = latest_of(x) else {
+        return event(o, 5);
+    };
+    if !is_market(o) {
+        return event(o, 6);
+    }
+    if is_poor(o, cash, q) {
+        return event(o, 7);
+    }
+    if is_short(o, x.holding) {
+        return event(o, 8);
+    }
+    if o.shares == 0.0 {
+        return event(o, 9);
+    }
+    event(o, counts.room_fault())
+}
+
+// A symbol's pending quantity with an order's effect.
+fn pending_after(o: Order, awaited: bool, pending: f64) -> f64
+    ensures { λ r. ⌜ r ≡ pendingAfter o awaited pending ⌝ }
+{
+    let shares = o.shares;
+    if o.is_sell() {
+        if awaited { pending + -shares } else { -shares }
+    } else {
+        if awaited { pending + shares } else { shares }
+    }
+}
+
+pub(crate) fn no_events() -> [OrderEvent; 256]
+    ensures { λ r. ⌜ r ≡ noEvents ⌝ }
+{
+    let o = Order::market_sell(0, 0.0);
+    let blank = OrderEvent {
+        order: o,
+        number: 0,
+    };
+    [blank; 256]
+}
+
+impl OrderList {
+    pub fn none() -> OrderList
+        ensures { λ r. ⌜ r ≡ noOrders ⌝ }
+    {
+        let o = Order::market_sell(0, 0.0);
+        OrderList {
+            orders: [o; 256],
+            count: 0,
+        }
+    }
+
+    fn one(order: Order) -> OrderList
+        ensures { λ r. ⌜ r ≡ oneOrder order ⌝ }
+    {
+        let mut list = OrderList::none();
+        list.orders[0] = order;
+        list.count = 1;
+        list
+    }
+}
+
+impl UistBroker {
+    // Sends the listed orders one after the other, in place.
+    pub(crate) fn send_all(self, list: OrderList) -> SentAll
+        requires { ⌜ SendsFit (self .exchange .counts) ⌝ }
+        ensures { λ r. ⌜ r ≡ sendAllOf self (listed list) ⌝ }
+    {
+        let portfolio = self.portfolio;
+        let latest = portfolio.latest;
+        let costs = portfolio.costs;
+        let mut exchange = self.exchange;
+        let mut funds = portfolio.funds;
+        let mut events = no_events();
+        let mut i: usize = 0;
+        while i < 256 {
+            if i >= list.count {
+                break;
+            }
+            let o = list.orders[i];
+            let at = (o.symbol % 256) as usize;
+            let q = latest.rows[at];
+            let x = AtSymbol {
+                present: latest.present[at],
+                quote: q,
+                holding: funds.holding[at],
+            };
+            let c = exchange.counts;
+            let e = send_event(o, funds.failed, funds.cash, x, c);
+            if e.number == 0 {
+                let place = c.resting + c.waits;
+                exchange.book[place] = Booked {
+                    number: 0,
+                    order: o,
+                };
+                exchange.counts.waits = c.waits + 1;
+                exchange.counts.taken = c.taken + 1;
+                funds.pending[at] = pending_after(o, funds.awaited[at], funds.pending[at]);
+                funds.awaited[at] = true;
+            }
+            events[i] = e;
+            i = i + 1;
+        }
+        let moved = Portfolio {
+            latest: latest,
+            funds: funds,
+            costs: costs,
+        };
+        SentAll {
+            broker: UistBroker {
+                exchange: exchange,
+                portfolio: moved,
+            },
+            events: events,
+        }
+    }
+
+    pub fn send_order(self, order: Order) -> Sent
+        ensures { λ r. ⌜ r ≡ sendOf self order ⌝ }
+    {
+        let exchange = self.exchange;
+        let counts = exchange.counts;
+        if counts.broken() {
+            return Sent {
+                broker: self,
+                event: event(order, 16),
+            };
+        }
+        let sent = self.send_all(OrderList::one(order));
+        let broker = sent.broker;
+        let e = sent.events[0];
+        Sent {
+            broker: broker,
+            event: e,
+        }
+    }
+
+    // A direct insertion: pending is kept.
+    pub fn insert_order(self, order: Order) -> Sent
+        ensures { λ r. ⌜ r ≡ insertOf self order ⌝ }
+    {
+        let exchange = self.exchange;
+        let portfolio = self.portfolio;
+        let inserted = exchange.insert_order(order);
+        let moved = inserted.exchange;
+        Sent {
+            broker: UistBroker {
+                exchange: moved,
+                portfolio: portfolio,
+            },
+            event: event(order, inserted.number),
+        }
+    }
+
+    pub fn delete_order(self, order_id: u64) -> BrokerDeleted
+        ensures { λ r. ⌜ r ≡ deleteOf self «order_id» ⌝ }
+    {
+        let exchange = self.exchange;
+        let portfolio = self.portfolio;
+        let deleted = exchange.delete_order(order_id);
+        let moved = deleted.exchange;
+        BrokerDeleted {
+            broker: UistBroker {
+                exchange: moved,
+                portfolio: portfolio,
+            },
+            number: deleted.number,
+        }
+    }
+}

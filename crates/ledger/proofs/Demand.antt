@@ -1,0 +1,194 @@
+-- Demand 3, proved: the program meets the ledger over every list of calls, and the ledger has the claim. Assumes nothing.
+use Prim.Native.Nat.{ℕ, zero, suc, _<_, _^_}
+use native.Mathlib.Omega.{arith}
+use mathlib.Core.Bool.{Bool, true, false, cond}
+use mathlib.Core.Path.{_≡_, refl, _∙_, sym, ap, ap₂, subst, fun-ext}
+use mathlib.Core.List.{List, [], _∷_, _++_}
+use mathlib.Core.Option.{none, some}
+use lib.Dec.{ltb}
+use lib.Ieee as Ieee
+use lib.Ieee.{nan}
+use lib.ListN.{length, take, getD, replicate, length-replicate, getD-replicate}
+use borrow.Author.Tests.{ltb-true}
+use Rattle.lists.proofs.Over.{take-over}
+use Rattle.market.specs.Numbers.{drawn, unlessDrawn}
+use Rattle.market.specs.Orders.{zero64}
+use Rattle.market.specs.Quotes.{tableTests, tableOf}
+use Rattle.market.specs.declared.quote.Quote.{Quote}
+use Rattle.market.specs.declared.trade.Trade.{Trade}
+use Rattle.market.specs.declared.weight.Weight.{Weight}
+use Rattle.market.proofs.Tables.{table-fault, table-present-length, table-rows-length}
+use Rattle.costs.specs.declared.TradeCosts.{TradeCosts}
+use Rattle.costs.specs.Kept.{costsOf}
+use Rattle.orders.specs.Orders.{erase}
+use Rattle.orders.proofs.Shape.{Shape, quiet, acting, erasing}
+use Rattle.orders.proofs.Lives as Lives
+use Rattle.exchange.specs.State.{fresh, blankBooked}
+use Rattle.rules.specs.Money.{unlessZero}
+use Rattle.rules.specs.Basis.{costBasis}
+use Rattle.broker.specs.State.{noFunds, heldAt, pendingIf, pendingAt}
+use Rattle.broker.specs.Build.{buildOf, costTests, freshBroker, noBroker}
+use Rattle.broker.specs.Lent.{buildFor}
+use Rattle.broker.specs.declared.send.OrderEvent.{OrderEvent}
+use Rattle.ledger.specs.Calls.{Call, deposit, withdraw, liquidate, send, sendList, insert, delete, check, update}
+use Rattle.ledger.specs.Ledger as Ledger
+use Rattle.ledger.specs.Ledger.{Ledger, start, booking, checking, afterWeights, checkTests, updateTests}
+use Rattle.ledger.specs.Program as Program
+use Rattle.ledger.specs.Program.{Held, built}
+use Rattle.ledger.specs.Demand.{tradable, deletes, brokerCalls, Demand3}
+use Rattle.ledger.proofs.Fetching.{first-rows}
+use Rattle.ledger.proofs.Kept.{Keeps, keeps-both, keeps-weights, keeps-checking, quiet-deposit, quiet-withdraw, quiet-liquidate, quiet-send, quiet-list, quiet-insert}
+use Rattle.ledger.proofs.Calls.{Meets, step-meets, step-answer}
+
+-- ---- a list of calls
+
+run-meets : (l₀ : List Trade) → length l₀ < 2 ^ 64 → (s : Held) (L : Ledger) (cs : List Call) → Meets l₀ s L → Meets l₀ (Program.run s cs) (Ledger.run L cs)
+unfolding Program.run Ledger.run
+run-meets l₀ h s L [] m = m
+run-meets l₀ h s L (c ∷ cs) m = run-meets l₀ h (Program.step s c) (Ledger.step L c) cs (step-meets l₀ s L m h c)
+
+run-answers : (l₀ : List Trade) → length l₀ < 2 ^ 64 → (s : Held) (L : Ledger) (cs : List Call) → Meets l₀ s L → Program.answers s cs ≡ Ledger.answers L cs
+unfolding Program.answers Ledger.answers
+run-answers l₀ h s L [] m = refl
+run-answers l₀ h s L (c ∷ cs) m = ap₂ (λ x y. x ∷ y) (step-answer l₀ s L m h c) (run-answers l₀ h (Program.step s c) (Ledger.step L c) cs (step-meets l₀ s L m h c))
+
+-- ---- the builder's result
+
+zero-none : unlessZero zero64 ≡ none
+unfolding Ieee.ofBits Ieee.eq
+zero-none = refl
+
+none-held : (n : ℕ) (b : Bool) → ltb n 256 ≡ b → cond b (unlessZero (getD (replicate 256 zero64) n nan)) none ≡ none
+none-held n false e = refl
+none-held n true e = ap unlessZero (getD-replicate 256 n zero64 nan (ltb-true n 256 e)) ∙ zero-none
+
+none-pending : (n : ℕ) (b : Bool) → ltb n 256 ≡ b → cond b (pendingIf (getD (replicate 256 false) n false) (getD (replicate 256 zero64) n nan)) none ≡ none
+none-pending n false e = refl
+none-pending n true e = ap (λ x. pendingIf x (getD (replicate 256 zero64) n nan)) (getD-replicate 256 n false false (ltb-true n 256 e))
+
+-- the first number drawn decides
+first-drawn : (n f : ℕ) → unlessDrawn n f n ≡ 0 → (n ≡ 0) × (f ≡ 0)
+first-drawn zero f e = (refl, e)
+first-drawn (suc n) f e = absurd (omega (arith, e))
+
+module _ (costs : TradeCosts) (first : List Quote) (l₀ : List Trade) where
+  build-table : buildFor costs first l₀ .number ≡ 0 → drawn (tableTests 0 first) ≡ 0
+  unfolding buildOf
+  build-table e = sym (table-fault first) ∙ first-drawn (drawn (costTests (costs .count) (costsOf costs))) (tableOf first .fault) e .1
+
+  built-broker : buildFor costs first l₀ .number ≡ 0 → buildFor costs first l₀ .broker ≡ freshBroker costs (tableOf first) (length l₀)
+  unfolding buildOf
+  built-broker e = ap (λ n. unlessDrawn n (freshBroker costs (tableOf first) (length l₀)) noBroker) e
+
+  fresh-meets : drawn (tableTests 0 first) ≡ 0 → Meets l₀ (record { broker = freshBroker costs (tableOf first) (length l₀); log = l₀ }) (start (costsOf costs) first (length l₀))
+  unfolding fresh noFunds start
+  fresh-meets d =
+      record {
+        stands = record {
+          books = record {
+            rest-count = refl;
+            rest = refl;
+            wait-count = refl;
+            wait = refl;
+            given-is = refl;
+            taken-is = refl;
+            logged-is = refl;
+            room-is = refl;
+            size = length-replicate 1024 blankBooked;
+            fit = record { traded = omega arith; room-left = omega arith; places = omega arith };
+          };
+          money =
+              ap (λ r. record { costs = costsOf costs; latest = r; failed = false; cash = zero64; held = heldAt (replicate 256 zero64); pending = pendingAt (replicate 256 false) (replicate 256 zero64) }) (first-rows first d)
+              ∙ ap₂ (λ x y. record { costs = costsOf costs; latest = Rattle.ledger.specs.Ledger.start (costsOf costs) first (length l₀) .money .latest; failed = false; cash = zero64; held = x; pending = y })
+              (fun-ext (λ n. none-held n (ltb n 256) refl)) (fun-ext (λ n. none-pending n (ltb n 256) refl));
+          wide = record { holding = length-replicate 256 zero64; pending = length-replicate 256 zero64; awaited = length-replicate 256 false };
+          present = table-present-length first;
+          rows = table-rows-length first;
+        };
+        room-is = refl;
+        log = refl;
+      }
+
+  built-meets : buildFor costs first l₀ .number ≡ 0 → Meets l₀ (built costs first l₀) (start (costsOf costs) first (length l₀))
+  built-meets e = subst (λ b. Meets l₀ (record { broker = b; log = l₀ }) (start (costsOf costs) first (length l₀))) (sym (built-broker e)) (fresh-meets (build-table e))
+
+-- ---- the ledger has the claim
+
+ledger-last : (L : Ledger) (cs : List Call) (c : Call) → Ledger.run L (cs ++ (c ∷ [])) ≡ Ledger.step (Ledger.run L cs) c
+unfolding Ledger.run
+ledger-last L [] c = refl
+ledger-last L (d ∷ cs) c = ledger-last (Ledger.step L d) cs c
+
+-- a call that keeps the booked orders and the trades
+quiet-shape : (L M : Ledger) (c : Call) → ((n : ℕ) → deletes n c ≡ false) → tradable c ≡ none → Keeps L M → Shape brokerCalls (L .orders) c (M .orders)
+quiet-shape L M c d t k = quiet brokerCalls (L .orders) (M .orders) c d t (record { booked = k .booked; trades = k .trades })
+
+-- a check that acts
+acting-shape : (L M : Ledger) (c : Call) (t f : List Quote) → ((n : ℕ) → deletes n c ≡ false) → tradable c ≡ some t → Keeps (booking L t f) M → Shape brokerCalls (L .orders) c (M .orders)
+acting-shape L M c t f d s k = acting brokerCalls (L .orders) (M .orders) c t d s (record { booked = k .booked; trades = k .trades })
+
+check-shape : (L : Ledger) (t f : List Quote) (n : ℕ) → drawn (checkTests t f) ≡ n → Shape brokerCalls (L .orders) (check t f) (unlessDrawn n (checking L t f) L .orders)
+check-shape L t f zero e = acting-shape L (checking L t f) (check t f) t f (λ k. refl) (ap (λ k. unlessDrawn k (some t) none) e) (keeps-checking L t f)
+check-shape L t f (suc n) e = quiet-shape L L (check t f) (λ k. refl) (ap (λ k. unlessDrawn k (some t) none) e) (record { room = refl; booked = refl; trades = refl })
+
+update-shape : (L : Ledger) (t f : List Quote) (w : List Weight) (e : List OrderEvent) (n : ℕ) → drawn (updateTests t f w (length e)) ≡ n →
+    Shape brokerCalls (L .orders) (update t f w e) (unlessDrawn n (afterWeights (checking L t f) w) L .orders)
+update-shape L t f w e zero d =
+    acting-shape L (afterWeights (checking L t f) w) (update t f w e) t f (λ k. refl) (ap (λ k. unlessDrawn k (some t) none) d) (keeps-both (keeps-checking L t f) (keeps-weights (checking L t f) w))
+update-shape L t f w e (suc n) d = quiet-shape L L (update t f w e) (λ k. refl) (ap (λ k. unlessDrawn k (some t) none) d) (record { room = refl; booked = refl; trades = refl })
+
+step-shape : (L : Ledger) (c : Call) → Shape brokerCalls (L .orders) c (Ledger.step L c .orders)
+step-shape L (deposit a) = quiet-shape L _ (deposit a) (λ n. refl) refl (quiet-deposit L a)
+step-shape L (withdraw a) = quiet-shape L _ (withdraw a) (λ n. refl) refl (quiet-withdraw L a)
+step-shape L (liquidate a) = quiet-shape L _ (liquidate a) (λ n. refl) refl (quiet-liquidate L a)
+step-shape L (send o) = quiet-shape L _ (send o) (λ n. refl) refl (quiet-send L o)
+step-shape L (sendList l e) = quiet-shape L _ (sendList l e) (λ n. refl) refl (quiet-list L l e)
+step-shape L (insert o) = quiet-shape L _ (insert o) (λ n. refl) refl (quiet-insert L o)
+step-shape L (delete n) = unfold Ledger.step Ledger.callTests Ledger.acting drawn in erasing brokerCalls (L .orders) (erase n (L .orders)) (delete n) n (λ k. refl) refl (record { booked = refl; trades = refl })
+step-shape L (check t f) = unfold Ledger.step Ledger.callTests Ledger.acting in check-shape L t f (drawn (checkTests t f)) refl
+step-shape L (update t f w e) = unfold Ledger.step Ledger.callTests Ledger.acting in update-shape L t f w e (drawn (updateTests t f w (length e))) refl
+
+apart : (n : ℕ) (c : Call) → deletes n c ≡ true → tradable c ≡ none
+apart n (deposit a) e = refl
+apart n (withdraw a) e = refl
+apart n (liquidate a) e = refl
+apart n (send o) e = refl
+apart n (sendList l k) e = refl
+apart n (insert o) e = refl
+apart n (delete m) e = refl
+apart n (check t f) e = absurd (let z : _≡_ {A = ℕ} 0 1 = cc in omega arith)
+apart n (update t f w k) e = absurd (let z : _≡_ {A = ℕ} 0 1 = cc in omega arith)
+
+module _ (L : Ledger) (z : L .orders .booked ≡ []) (y : L .orders .trades ≡ []) where
+  ledger-runs : Lives.Runs brokerCalls (λ cs. Ledger.run L cs .orders)
+  unfolding Ledger.run
+  ledger-runs =
+      record {
+        apart = record { apart = apart };
+        none-booked = z;
+        none-traded = y;
+        shape = λ past c. subst (λ M. Shape brokerCalls (Ledger.run L past .orders) c (M .orders)) (sym (ledger-last L past c)) (step-shape (Ledger.run L past) c);
+      }
+
+-- ---- demand 3: any builder's arguments that draw no number, a log of any length that a slice has, every list of calls, refused ones included
+
+pub demand-3 : (costs : TradeCosts) (first : List Quote) (l₀ : List Trade) → buildFor costs first l₀ .number ≡ 0 → length l₀ < 2 ^ 64 → (cs : List Call) → Demand3 costs first l₀ cs
+unfolding start
+demand-3 costs first l₀ e h cs =
+    let L = start (costsOf costs) first (length l₀) in
+    let m = run-meets l₀ h (built costs first l₀) L cs (built-meets costs first l₀ e) in
+    let trades = Ledger.run L cs .orders .trades in
+    record {
+      lived = Lives.lived brokerCalls (λ xs. Ledger.run L xs .orders) (ledger-runs L refl refl) cs;
+      answered = run-answers l₀ h (built costs first l₀) L cs (built-meets costs first l₀ e);
+      compared = record {
+        log = m .log;
+        resting = m .stands .books .rest;
+        waiting = m .stands .books .wait;
+        money = m .stands .money;
+        basis = λ n.
+            ap (λ l. costBasis l n)
+            (ap (take (Program.run (built costs first l₀) cs .broker .exchange .counts .logged)) (m .log)
+            ∙ take-over trades l₀ (Program.run (built costs first l₀) cs .broker .exchange .counts .logged) (sym (m .stands .books .logged-is)));
+      };
+    }

@@ -1,0 +1,40 @@
+-- Cost basis and turnover: document 01, sections 4 and 7, as folds of trades. Definitions only.
+use Prim.Native.Nat.{ℕ}
+use mathlib.Core.Bool.{cond}
+use mathlib.Core.List.{List, foldl}
+use mathlib.Core.Option.{Option, none, some}
+use lib.Dec.{eqb}
+use lib.Ieee.{Float}
+use Rattle.market.specs.Orders.{zero64}
+use Rattle.market.specs.declared.trade.Trade.{Trade}
+use Rattle.rules.specs.Amounts.{plus, divided, isZero}
+use Rattle.rules.specs.Money.{adding}
+
+-- a symbol's quantity and value so far
+pub record Basis : Type 0 where
+  pub quantity : Float
+  pub value : Float
+
+-- a buy adds quantity and value, a sell subtracts both, quantity zero clears value
+abbrev pub cleared : Float → Float → Basis
+cleared q v = record { quantity = q; value = cond (isZero q) zero64 v }
+
+unfoldable pub basisStep : ℕ → Basis → Trade → Basis
+basisStep s b x =
+    cond (eqb (x .symbol) s)
+    (cleared (adding (x .typ) (b .quantity) (x .quantity)) (adding (x .typ) (b .value) (x .value)))
+    b
+
+-- none at zero, else value / quantity
+abbrev pub basisOf : Basis → Option Float
+basisOf b = cond (isZero (b .quantity)) none (some (divided (b .value) (b .quantity)))
+
+unfoldable pub costBasis : List Trade → ℕ → Option Float
+costBasis log s = basisOf (foldl (basisStep s) (record { quantity = zero64; value = zero64 }) log)
+
+-- the sum of all trade values in log order from 0.0
+abbrev pub addTurnover : Float → Trade → Float
+addTurnover v x = plus v (x .value)
+
+unfoldable pub turnover : List Trade → Float
+turnover log = foldl addTurnover zero64 log
