@@ -12,21 +12,22 @@ use lib.Ieee.{Float, nan}
 use lib.IntN.{pos}
 use lib.ListN.{length, take, drop, getD, set, length-append, length-map, length-set, length-take, drop-of-length-le}
 use lib.Seq.{take-all, take-suc-set, drop-set-lt, drop-cons, set-getD, getD-take}
-use Rattle.lists.specs.Lists.{keep, each}
+use Rattle.lists.specs.Lists.{over, keep, each}
 use Rattle.costs.proofs.Laws.{fold-turn, fold-end}
 use Rattle.market.specs.Numbers.{unlessDrawn}
 use Rattle.market.specs.Orders.{zero64}
-use Rattle.market.specs.Quotes.{noQuote}
+use Rattle.market.specs.Quotes.{noQuote, rowAt}
 use Rattle.market.specs.declared.quote.Quote.{Quote}
 use Rattle.market.specs.declared.table.Table.{Table}
 use Rattle.market.specs.declared.trade.Trade.{Trade}
 use Rattle.market.specs.declared.trade.TradeType.{TradeType}
 use Rattle.market.specs.declared.trade.TradeType.the-variants.{Buy}
 use Rattle.exchange.specs.State.{brokenOf, restingOf, waitingOf}
-use Rattle.exchange.specs.Tick.{stays, ofSide, sellsFirst, numberFrom, ticked}
+use Rattle.exchange.specs.Tick.{noTrades, stays, tradesOf, ofSide, sellsFirst, numberFrom, ticked, tickDone, tickOf}
 use Rattle.exchange.specs.declared.state.Booked.{Booked}
 use Rattle.exchange.specs.declared.state.Counts.{Counts}
 use Rattle.exchange.specs.declared.state.UistV1.{UistV1}
+use Rattle.exchange.specs.declared.tick.Ticked.{Ticked}
 use Rattle.exchange.proofs.Counting.{sound-facts}
 use Rattle.exchange.proofs.Executing.{few-executed}
 use Rattle.exchange.proofs.Booking.{length-numbers, sides}
@@ -182,6 +183,14 @@ none-by false false (suc t) f e = absurd (omega arith)
 pub number-none : (c : Counts) (n t f : ℕ) → checkNumber c n t f ≡ 0 → (brokenOf c ≡ false) × (t ≡ 0)
 unfolding checkNumber
 number-none c n t f e = none-by (not (eqb n (c .room))) (brokenOf c) t f e
+
+-- the tick of a check that draws no number acts
+pub tick-acts : (e : UistV1) (t : Table) (n f : ℕ) → checkNumber (e .counts) n (t .fault) f ≡ 0 → tickOf e t ≡ tickDone e (rowAt t)
+unfolding tickOf
+tick-acts e t n f k = let s = number-none (e .counts) n (t .fault) f k in rw (s .0, s .1)
+
+pub tick-trades : (e : UistV1) (t : Table) (n f : ℕ) → checkNumber (e .counts) n (t .fault) f ≡ 0 → tickOf e t .trades ≡ over (tradesOf (rowAt t) (restingOf e)) noTrades
+tick-trades e t n f k = ap (λ (x : Ticked). x .trades) (tick-acts e t n f k)
 
 -- after a tick no order waits, and no more rest than rested and waited: sends fit
 pub ticked-fits : (e : UistV1) (rows : ℕ → Option Quote) → brokenOf (e .counts) ≡ false → SendsFit (ticked e rows .counts)

@@ -14,7 +14,6 @@ use Rattle.market.specs.Orders.{zero64}
 use Rattle.market.specs.Quotes.{rowAt}
 use Rattle.market.specs.declared.order.Order.{Order}
 use Rattle.market.specs.declared.table.Table.{Table}
-use Rattle.market.specs.declared.trade.Trade.{Trade}
 use Rattle.exchange.specs.State.{brokenOf}
 use Rattle.exchange.specs.declared.state.Counts.{Counts}
 use Rattle.rules.specs.Amounts.{below}
@@ -42,17 +41,11 @@ use Rattle.broker.proofs.Settling.{number-none, ticked-fits}
 -- ---- what is given where no number is drawn, and what may be missing
 
 module _ {A B : Type 0} (n : ℕ) (p : Option A) (a d : B) (g : A → B) (z : n ≡ 0) where
-  when-none : p ≡ none → unlessDrawn n (given p a g) d ≡ a
+  pub when-none : p ≡ none → unlessDrawn n (given p a g) d ≡ a
   when-none e = unless-none n (given p a g) d z ∙ ap (λ (o : Option A). given o a g) e
 
-  when-some : (l : A) → p ≡ some l → unlessDrawn n (given p a g) d ≡ g l
+  pub when-some : (l : A) → p ≡ some l → unlessDrawn n (given p a g) d ≡ g l
   when-some l e = unless-none n (given p a g) d z ∙ ap (λ (o : Option A). given o a g) e
-
-none-some : {A : Type 0} (p : Option A) (l : A) → p ≡ none → p ≡ some l → ⊥
-none-some p l e h = let z : _≡_ {A = ℕ} 0 1 = cc in omega arith
-
-same-some : {A : Type 0} (p : Option A) (l m : A) → p ≡ some l → p ≡ some m → l ≡ m
-same-some p l m e h = cc
 
 -- ---- a list holds its count of orders, or as many as there are places
 
@@ -93,7 +86,7 @@ none-by false false zero zero w z = refl
 none-by false false zero (suc f) w z = absurd (omega arith)
 none-by false false (suc t) f w z = absurd (omega arith)
 
-update-none : (c : Counts) (x : Lengths) (t f w : ℕ) → updateNumber c x t f w ≡ 0 → checkNumber c (x .log) t f ≡ 0
+pub update-none : (c : Counts) (x : Lengths) (t f w : ℕ) → updateNumber c x t f w ≡ 0 → checkNumber c (x .log) t f ≡ 0
 unfolding updateNumber checkNumber
 update-none c x t f w z = none-by (not (eqb (x .log) (c .room)) || brokenOf c) (ltb (x .events) (x .weights)) t f w z
 
@@ -111,18 +104,18 @@ module _ (b : UistBroker) (t f : Table) (w : Weights) (x : Lengths) where
   abbrev plan : Option (List Order)
   plan = planAfter (checkedBy b t f) (weighed w)
 
-  pub refused : (k : ℕ) (trades : List Trade) (events : List OrderEvent) → k ≡ drew → (k ≡ 0 → ⊥) →
-      Updates b t f w x drew (record { broker = b; trades = trades; count = 0; first = 0; events = events; sent = 0; total = zero64; number = k })
-  refused k trades events e d =
+  pub refused : (k : ℕ) (y : Checked) (events : List OrderEvent) → k ≡ drew → (k ≡ 0 → ⊥) → Checks b t f (x .log) y → events ≡ noEvents →
+      Updates b t f w x drew (record { broker = b; trades = y .trades; count = 0; first = 0; events = events; sent = 0; total = zero64; number = k })
+  refused k y events e d v p =
       let h : drew ≡ 0 → ⊥ = λ z. d (e ∙ z) in
       record {
         before = refl;
         number = e ∙ sym (unless-some drew _ drew h);
         broker = sym (unless-some drew _ b h);
-        trades = λ z. absurd (h z);
+        trades = v .trades;
         count = sym (unless-some drew _ 0 h);
         first = sym (unless-some drew _ 0 h);
-        events = λ z l p. absurd (h z);
+        events = p ∙ sym (unless-some drew _ noEvents h);
         sent = sym (unless-some drew _ 0 h);
         total = sym (unless-some drew _ zero64 h);
       }
@@ -149,20 +142,20 @@ module _ (b : UistBroker) (t f : Table) (w : Weights) (x : Lengths) where
       planned z n = ap (λ (u : UistBroker). planAfter u (weighed w)) (sym checked) ∙ sym q ∙ ap foundAs n
 
       -- 13: the check stands
-      pub stands : (events : List OrderEvent) → p .found ≡ false →
+      pub stands : (events : List OrderEvent) → events ≡ noEvents → p .found ≡ false →
           Updates b t f w x drew
           (record { broker = y .broker; trades = y .trades; count = y .count; first = y .first; events = events; sent = 0; total = zero64; number = 13 })
       unfolding weighedBy
-      stands events n =
+      stands events i n =
           let e = planned false n in
           record {
             before = refl;
             number = sym (when-none drew plan 13 drew _ k e);
             broker = checked ∙ sym (when-none drew plan (checkedBy b t f) b _ k e);
-            trades = λ z. v .trades no-number;
+            trades = v .trades;
             count = answered (y .count) _ (v .count);
             first = answered (y .first) _ (v .first);
-            events = λ z l h. absurd (none-some plan l e h);
+            events = i ∙ sym (when-none drew plan noEvents noEvents _ k e);
             sent = sym (when-none drew plan 0 0 _ k e);
             total = sym (when-none drew plan zero64 zero64 _ k e);
           }
@@ -182,10 +175,10 @@ module _ (b : UistBroker) (t f : Table) (w : Weights) (x : Lengths) where
             before = refl;
             number = sym (when-some drew plan 13 drew (λ i. 0) k l e);
             broker = ap (λ (u : SentAll). u .broker) sent ∙ sym (when-some drew plan o b (sentAll o) k l e);
-            trades = λ z. v .trades no-number;
+            trades = v .trades;
             count = answered (y .count) _ (v .count);
             first = answered (y .first) _ (v .first);
-            events = λ z i r. ap (λ (u : SentAll). u .events) sent ∙ ap (λ (u : List Order). over (eventsOf o u) noEvents) (same-some plan l i e r);
+            events = ap (λ (u : SentAll). u .events) sent ∙ sym (when-some drew plan noEvents noEvents (λ i. over (eventsOf o i) noEvents) k l e);
             sent = d ∙ sym (when-some drew plan 0 0 length k l e);
             total = h ∙ ap (λ (u : UistBroker). totalValue (moneyOf (u .portfolio))) checked
                 ∙ sym (when-some drew plan zero64 zero64 (λ i. totalValue (moneyOf (o .portfolio))) k l e);

@@ -6,14 +6,14 @@ use mathlib.Core.List.{foldl}
 use lib.Dec.{eqb}
 use lib.Ieee.{Float, nan, binary64, ofBits}
 use lib.ListN.{length, getD, set}
-use Rattle.lists.specs.Lists.{over, each}
+use Rattle.lists.specs.Lists.{each}
 use Rattle.market.specs.Numbers.{unlessDrawn}
 use Rattle.market.specs.Orders.{zero64}
 use Rattle.market.specs.Quotes.{noQuote, rowAt}
 use Rattle.market.specs.declared.table.Table.{Table}
 use Rattle.market.specs.declared.trade.Trade.{Trade}
 use Rattle.exchange.specs.State.{brokenOf, restingOf}
-use Rattle.exchange.specs.Tick.{noTrades, tradesOf, ticked}
+use Rattle.exchange.specs.Tick.{tradesOf, ticked, tickOf}
 use Rattle.exchange.specs.declared.state.Counts.{Counts}
 use Rattle.rules.specs.Amounts.{plus, negated, below, isZero}
 use Rattle.rules.specs.Money.{adding, taking, paid, orZero, unlessZero}
@@ -113,11 +113,11 @@ bookedBy b t f =
 unfoldable pub checkedBy : UistBroker → Table → Table → UistBroker
 checkedBy b t f = rescuedBy (bookedBy b t f)
 
--- a check that draws no number acts; one that draws a number changes nothing
+-- a check that draws no number acts; one that draws a number changes nothing. The trades are those of its tick, in the first `count` places
 pub record Checks (b : UistBroker) (t f : Table) (n : ℕ) (r : Checked) : Type 0 where
   pub number : r .number ≡ checkNumber (b .exchange .counts) n (t .fault) (f .fault)
   pub broker : r .broker ≡ unlessDrawn (r .number) (checkedBy b t f) b
-  pub trades : r .number ≡ 0 → r .trades ≡ over (tradesOf (rowAt t) (restingOf (b .exchange))) noTrades
+  pub trades : r .trades ≡ tickOf (b .exchange) t .trades
   pub count : r .count ≡ unlessDrawn (r .number) (length (tradesOf (rowAt t) (restingOf (b .exchange)))) 0
   pub first : r .first ≡ unlessDrawn (r .number) (b .exchange .counts .logged) 0
   pub queued : r .queued ≤ heldCount (moneyOf (bookedBy b t f .portfolio))

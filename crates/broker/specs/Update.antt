@@ -3,7 +3,7 @@ use Prim.Native.Nat.{ℕ}
 use mathlib.Core.Bool.{not, _||_, cond}
 use mathlib.Core.Path.{_≡_}
 use mathlib.Core.List.{List}
-use mathlib.Core.Option.{Option, some}
+use mathlib.Core.Option.{Option}
 use lib.Dec.{eqb, ltb}
 use lib.ListN.{length}
 use Rattle.lists.specs.Lists.{over, given}
@@ -14,7 +14,7 @@ use Rattle.market.specs.declared.order.Order.{Order}
 use Rattle.market.specs.declared.table.Table.{Table}
 use Rattle.market.specs.declared.weight.Weight.{Weight}
 use Rattle.exchange.specs.State.{brokenOf, restingOf}
-use Rattle.exchange.specs.Tick.{noTrades, tradesOf}
+use Rattle.exchange.specs.Tick.{tradesOf, tickOf}
 use Rattle.exchange.specs.declared.state.Counts.{Counts}
 use Rattle.rules.specs.Values.{totalValue}
 use Rattle.rules.specs.Weights.{planOf}
@@ -46,9 +46,9 @@ pub record Updates (b : UistBroker) (t f : Table) (w : Weights) (x : Lengths) (n
   pub before : n ≡ updateNumber (b .exchange .counts) x (t .fault) (f .fault) (w .fault)
   pub number : r .number ≡ unlessDrawn n (given (planAfter (checkedBy b t f) (weighed w)) 13 (λ l. 0)) n
   pub broker : r .broker ≡ unlessDrawn n (weighedBy (checkedBy b t f) (weighed w)) b
-  pub trades : n ≡ 0 → r .trades ≡ over (tradesOf (rowAt t) (restingOf (b .exchange))) noTrades
+  pub trades : r .trades ≡ tickOf (b .exchange) t .trades
   pub count : r .count ≡ unlessDrawn n (length (tradesOf (rowAt t) (restingOf (b .exchange)))) 0
   pub first : r .first ≡ unlessDrawn n (b .exchange .counts .logged) 0
-  pub events : n ≡ 0 → (l : List Order) → planAfter (checkedBy b t f) (weighed w) ≡ some l → r .events ≡ over (eventsOf (checkedBy b t f) l) noEvents
+  pub events : r .events ≡ unlessDrawn n (given (planAfter (checkedBy b t f) (weighed w)) noEvents (λ l. over (eventsOf (checkedBy b t f) l) noEvents)) noEvents
   pub sent : r .sent ≡ unlessDrawn n (given (planAfter (checkedBy b t f) (weighed w)) 0 length) 0
   pub total : r .total ≡ unlessDrawn n (given (planAfter (checkedBy b t f) (weighed w)) zero64 (λ l. totalValue (moneyOf (checkedBy b t f .portfolio)))) zero64

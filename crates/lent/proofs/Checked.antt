@@ -23,6 +23,7 @@ use Rattle.broker.specs.Check.{checkNumber, checkedBy, Checks}
 use Rattle.broker.specs.Lent.{logTest, tradesIn, logWith, checkFor, checkBroker, checkTraded, checkLog, heldAfter}
 use Rattle.broker.specs.declared.state.UistBroker.{UistBroker}
 use Rattle.broker.specs.declared.check.Checked.{Checked}
+use Rattle.broker.proofs.Settling.{tick-trades}
 use Rattle.lent.specs.Answers.{AnswersCheck}
 use Rattle.lent.specs.declared.uist.CheckAnswer.{CheckAnswer}
 use Rattle.lent.proofs.Faults.{whole}
@@ -95,6 +96,6 @@ module _ (b : UistBroker) (t f : List Quote) (log : List Trade) where
             number = number-is;
             log-is = is-after
                 ∙ stored-by log noTrades (tradesIn b t) trades (b .exchange .counts .logged) first n (x .number)
-                (λ z. is-trades ∙ checks .trades z) (is-n ∙ checks .count) (is-first ∙ checks .first)
+                (λ z. is-trades ∙ checks .trades ∙ tick-trades (b .exchange) (tableOf t) (length log) (tableOf f .fault) (sym (checks .number) ∙ z)) (is-n ∙ checks .count) (is-first ∙ checks .first)
                 ∙ ap (λ (k : ℕ). unlessDrawn k (logWith b t log) log) number-is;
           })

@@ -36,6 +36,8 @@ use Rattle.broker.specs.declared.send.OrderEvent.{OrderEvent}
 use Rattle.broker.specs.declared.weigh.Weights.{Weights}
 use Rattle.broker.specs.declared.update.Lengths.{Lengths}
 use Rattle.broker.specs.declared.update.Updated.{Updated}
+use Rattle.broker.proofs.Settling.{tick-trades}
+use Rattle.broker.proofs.Updating.{when-some, update-none}
 use Rattle.lent.specs.Walks.{ReadsWeights}
 use Rattle.lent.specs.Answers.{AnswersUpdate}
 use Rattle.lent.specs.declared.uist.UpdateAnswer.{UpdateAnswer}
@@ -116,7 +118,8 @@ module _ (b : UistBroker) (t f : List Quote) (w : List Weight) (e : List OrderEv
       log-is after is-after =
           is-after
           ∙ stored-by log noTrades (tradesIn b t) trades (b .exchange .counts .logged) first count n
-          (λ z. is-trades ∙ updates .trades z) (is-count ∙ updates .count) (is-first ∙ updates .first)
+          (λ z. is-trades ∙ updates .trades
+          ∙ tick-trades (b .exchange) (tableOf t) (length log) (tableOf f .fault) (update-none (b .exchange .counts) lengths (tableOf t .fault) (tableOf f .fault) (r .fault) (sym (updates .before) ∙ z))) (is-count ∙ updates .count) (is-first ∙ updates .first)
           ∙ ap (λ (k : ℕ). unlessDrawn k (logWith b t log) log) number-is
 
     module _ (rows : List OrderEvent) (sent : ℕ) (is-rows : rows ≡ y .events) (is-sent : sent ≡ y .sent) where
@@ -137,7 +140,7 @@ module _ (b : UistBroker) (t f : List Quote) (w : List Weight) (e : List OrderEv
 
       events-by : (k : ℕ) → n ≡ k → sent ≡ unlessDrawn k (given (planOn b t f w) 0 length) 0 →
           paste e 0 rows sent ≡ unlessDrawn k (given (planOn b t f w) e (λ l. over (eventsOf (checkedOn b t f) l) e)) e
-      events-by zero z s = events-stored e (checkedOn b t f) rows sent (planOn b t f w) (λ l p. is-rows ∙ updates .events z l (plan-is z ∙ p)) s
+      events-by zero z s = events-stored e (checkedOn b t f) rows sent (planOn b t f w) (λ l p. is-rows ∙ updates .events ∙ when-some n (planAfter (checkedOn b t f) (weighed r)) noEvents noEvents _ z l (plan-is z ∙ p)) s
       events-by (suc k) z s = ap (paste e 0 rows) s ∙ sym (paste-zero e 0 rows)
 
       pub update-answers : (a : UpdateAnswer) (told : List OrderEvent) (after : List Trade) → a ≡ answerIn y → told ≡ paste e 0 rows sent → after ≡ updateLog b t f w e log →

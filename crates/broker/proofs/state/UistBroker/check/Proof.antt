@@ -1,6 +1,5 @@
 -- `check` meets its contract: what its calls give, put together, is the check's definition.
 use Prim.Native.Nat.{ℕ, zero, suc, _≤_}
-use mathlib.Core.Bool.{false}
 use mathlib.Core.Path.{_≡_, refl, sym, ap, subst, _∙_}
 use mathlib.Core.List.{List, foldl}
 use native.Mathlib.Omega.{arith}
@@ -10,9 +9,8 @@ use Rattle.lists.proofs.Over.{take-over}
 use Rattle.market.specs.Quotes.{rowAt}
 use Rattle.market.specs.declared.table.Table.{Table}
 use Rattle.market.specs.declared.trade.Trade.{Trade}
-use Rattle.exchange.specs.State.{brokenOf, restingOf}
+use Rattle.exchange.specs.State.{restingOf}
 use Rattle.exchange.specs.Tick.{noTrades, tradesOf, tickDone, tickOf}
-use Rattle.exchange.specs.declared.state.UistV1.{UistV1}
 use Rattle.exchange.specs.declared.tick.Ticked.{Ticked}
 use Rattle.broker.specs.State.{moneyOf}
 use Rattle.broker.specs.Send.{SendsFit}
@@ -21,28 +19,22 @@ use Rattle.broker.specs.Check.{settleOne, mergeOf, rescuedBy, Rescues, c
 use Rattle.broker.specs.declared.state.Funds.{Funds}
 use Rattle.broker.specs.declared.state.UistBroker.{UistBroker}
 use Rattle.broker.specs.declared.liquidate.Liquidated.{Liquidated}
-use Rattle.broker.proofs.Settling.{number-none, ticked-fits}
+use Rattle.broker.proofs.Settling.{number-none, tick-acts, ticked-fits}
 use Rattle.broker.proofs.state.UistBroker.check.Statement.{statement}
 use Rattle.broker.proofs.state.UistBroker.check.Tie as tie
-
-tick-acts : (e : UistV1) (t : Table) → brokenOf (e .counts) ≡ false → t .fault ≡ 0 → tickOf e t ≡ tickDone e (rowAt t)
-unfolding tickOf
-tick-acts e t h k = rw (h, k)
 
 module _ (b : UistBroker) (t f : Table) (n : ℕ) where
   abbrev number : ℕ
   number = checkNumber (b .exchange .counts) n (t .fault) (f .fault)
 
-  refused : (k : ℕ) (trades : List Trade) → k ≡ number → (k ≡ 0 → ⊥) → Checks b t f n (record { broker = b; trades = trades; count = 0; first = 0; queued = 0; number = k })
-  refused zero trades e d = absurd (d refl)
-  refused (suc k) trades e d =
-      record { number = e; broker = refl; trades = λ z. absurd (d z); count = refl; first = refl; queued = omega arith }
+  refused : (k : ℕ) (trades : List Trade) → k ≡ number → (k ≡ 0 → ⊥) → trades ≡ tickOf (b .exchange) t .trades → Checks b t f n (record { broker = b; trades = trades; count = 0; first = 0; queued = 0; number = k })
+  refused zero trades e d p = absurd (d refl)
+  refused (suc k) trades e d p =
+      record { number = e; broker = refl; trades = p; count = refl; first = refl; queued = omega arith }
 
   module _ (k : number ≡ 0) (x : Ticked) (p : x ≡ tickOf (b .exchange) t) where
     done : x ≡ tickDone (b .exchange) (rowAt t)
-    done =
-        let s = number-none (b .exchange .counts) n (t .fault) (f .fault) k in
-        p ∙ tick-acts (b .exchange) t (s .0) (s .1)
+    done = p ∙ tick-acts (b .exchange) t n (f .fault) k
 
     fits : SendsFit (x .exchange .counts)
     fits =
@@ -69,7 +61,7 @@ module _ (b : UistBroker) (t f : Table) (n : ℕ) where
           record {
             number = sym k;
             broker = v .broker ∙ ap rescuedBy booked;
-            trades = λ z. ap (λ (w : Ticked). w .trades) done;
+            trades = ap (λ (w : Ticked). w .trades) p;
             count = ap (λ (w : Ticked). w .count) done;
             first = ap (λ (w : Ticked). w .first) done;
             queued = subst (λ (z : UistBroker). y .queued ≤ heldCount (moneyOf (z .portfolio))) booked (v .queued);
@@ -82,7 +74,7 @@ tick-requires : tie.Need-tick-requires
 tick-requires c κs = search needs
 
 returns : tie.Need-returns
-returns c = refused _ _ _ _ _ _ (c .before .before .before .check-fault .ensures) (c .if1 .taken)
+returns c = refused _ _ _ _ _ _ (c .before .before .before .check-fault .ensures) (c .if1 .taken) (ap (λ (x : Ticked). x .trades) (c .before .before .tick .ensures))
 
 merge-requires : tie.Need-merge-requires
 merge-requires c κs = search needs

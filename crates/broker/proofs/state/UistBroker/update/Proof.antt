@@ -16,7 +16,8 @@ check-requires : tie.Need-check-requires
 check-requires c κs = search needs
 
 returns : tie.Need-returns
-returns c = refused _ _ _ _ _ _ _ _ (c .before .before .before .before .update-fault .ensures) (c .if1 .taken)
+returns c =
+    refused _ _ _ _ _ _ _ _ (c .before .before .before .before .update-fault .ensures) (c .if1 .taken) (c .before .before .check .ensures) (c .before .before .before .no-events .ensures)
 
 diff-against-target-weights-requires : tie.Need-diff-against-target-weights-requires
 diff-against-target-weights-requires c κs = search needs
@@ -32,7 +33,7 @@ returns-2 c =
     let d = c .before .before in
     let e = d .before .before .before in
     let p = d .diff-against-target-weights in
-    stands _ _ _ _ _ (none-drawn e) _ (e .before .before .check .ensures) (p .result) (p .ensures) _ (not-true (p .result .found) (c .if2 .taken))
+    stands _ _ _ _ _ (none-drawn e) _ (e .before .before .check .ensures) (p .result) (p .ensures) _ (e .before .before .before .no-events .ensures) (not-true (p .result .found) (c .if2 .taken))
 
 send-all-requires : tie.Need-send-all-requires
 send-all-requires c κs =
