@@ -2,7 +2,8 @@
 """skeleton.py CRATE FN: print a proof file to start from, for a function over slices of structs or references to structs.
 
 Run it in the repository. It reads the function's MIR (`rt mir CRATE`) and writes the derivation in the steps of the crate `walks`,
-one line for each statement: what is live is dropped where the code leaves, a slice that is lent on comes back after the call.
+one line for each statement: what is live is dropped where the code leaves, what is lent comes back after the call (a slice, whole or its
+first rows, a local struct, the first rows of a local array).
 What it cannot know is written TODO: the contract, a loop's invariant and measure, and the condition, `asked`, which is a hole.
 A row type is written by its struct's name in small letters (`OrderEvent`: order-event), as the crate's Rows.antt is to name it.
 Nothing depends on this file: the prover checks what it printed like any other text.
@@ -93,12 +94,29 @@ def is_slice(ty):
     return isinstance(ty, list) and ty[0] == "tyStruct" and ty[1] == "&[]"
 
 
+def pointer_in(ref):
+    """The type of the pointer by which a local array or a slice is lent."""
+    array = ref[3]
+    return "(arrTo %s %s %s)" % (kin(array[1]), array[2][1], ref[2]) if array[0] == "tyArray" else pointer(ref)
+
+
 def pointer(ref):
     """The type of a reference's pointer: `shrTy s k`, `mutTy s k` or, of a loan, `ptrTo s mut erased`."""
     life, mutability, row = ref[1], ref[2], kin(ref[3])
     if isinstance(life, list):
         return "(%s %s %s)" % ("shrTy" if mutability == "imm" else "mutTy", row, life[1])
     return "(ptrTo %s %s erased)" % (row, mutability)
+
+
+def pointer_counts(body):
+    """Of each slice that is made, the pointer's local and the operand of the length."""
+    if isinstance(body, list):
+        if body and body[0] == "aggregate":
+            parts = items(body[1])
+            if len(parts) == 2 and parts[0][0] == "copy":
+                yield int(parts[0][1][1]), parts[1]
+        for part in body:
+            yield from pointer_counts(part)
 
 
 # ---- the derivation
@@ -111,6 +129,9 @@ class Derivation:
         self.index = {}  # a local that holds index × size: the index's local
         self.into = {}  # a pointer into an array or a slice: (the local that it points into, the index's local)
         self.lent = {}  # a loan: (the local that is lent, the loan's slot)
+        self.counts = dict(pointer_counts(function[5]))  # the pointer of a slice: the operand of its length
+        self.parts = {}  # a loan of a slice's first rows, and its pointer: "-part"
+        self.loans = 0  # the most loans at a time
         self.callees = []  # their keys, in the order of the calls
         self.heads = []  # the table at each loop's head
 
@@ -204,15 +225,29 @@ class Derivation:
 
     def back(self, n):
         """A loan is over: what was lent holds what the callee left."""
+        part = self.is_part(n)
         lent, beta = self.lent.pop(n)
-        if is_slice(self.locals[n]):
-            mine, loan = reference(self.locals[lent]), reference(self.locals[n])
-            step = "back %s %s %s %d %d %s %s %s same same refl refl" % (kin(mine[3]), self.slot(lent), beta, n, lent, pointer(mine), pointer(loan), self.lease(lent))
+        loan, row = reference(self.locals[n]), kin(reference(self.locals[n])[3])
+        before = []
+        if not is_slice(self.locals[n]):
+            step = "home %s %s %d %d %s same same refl" % (row, beta, n, lent, pointer(loan))
+        elif loan[2] == "imm":
+            before = ["drop %d (freeS %s %s)" % (n, row, beta)]
+            if is_slice(self.locals[lent]):
+                step = "back-shr %s %s %s %d %s %s same refl refl" % (row, self.slot(lent), beta, lent, pointer(reference(self.locals[lent])), self.lease(lent))
+            else:
+                step = "array-shr-back %s %s %s %d same refl" % (row, self.locals[lent][2][1], beta, lent)
+        elif is_slice(self.locals[lent]):
+            mine = reference(self.locals[lent])
+            step = "back%s %s %s %s %d %d %s %s %s same same refl refl" % (part, row, self.slot(lent), beta, n, lent, pointer(mine), pointer(loan), self.lease(lent))
         else:
-            loan = reference(self.locals[n])
-            step = "home %s %s %d %d %s same same refl" % (kin(loan[3]), beta, n, lent, pointer(loan))
+            step = "array-back %s %s %s %d %d %s same same refl" % (row, self.locals[lent][2][1], beta, n, lent, pointer(loan))
         self.live.discard(n)
-        return ["over %s refl" % beta, step, "forgets %s refl" % beta]
+        return before + ["over %s refl" % beta, step, "forgets %s refl" % beta]
+
+    def is_part(self, x):
+        """Whether a slice that is lent on is lent as its first rows, as the steps' names say it."""
+        return self.parts.get(x, "")
 
     def assign(self, statement):
         place, value = statement[1], statement[2]
@@ -245,13 +280,34 @@ class Derivation:
         if ty == "tyPtr":
             self.into[x] = (n, None)
             return ["addrs %d %d %s refl" % (x, n, self.free(x))]
-        beta, begins = self.lifetimes, "begins %d (units %d)" % (self.lifetimes, len(self.locals))
-        if items(place[2]):
-            mine = reference(self.locals[n])
-            self.lent[x] = (n, beta)
-            return [begins, "relends %s %s %s %d %d %s %s same %s tt refl refl refl (λ i j. tt)" % (kin(mine[3]), self.slot(n), beta, n, x, pointer(mine), pointer(ty), self.free(x))]
+        beta = self.lifetimes + len(self.lent)
+        begins = "begins %d (units %d)" % (beta, len(self.locals))
         self.lent[x] = (n, beta)
+        self.loans = max(self.loans, len(self.lent))
+        if items(place[2]):
+            return [begins, self.relend(x, n, beta)]
+        if self.locals[n][0] == "tyArray":
+            array = self.locals[n]
+            verb = "shares-array" if ty[2] == "imm" else "lends-array"
+            return [begins, "%s %s %s %s %d %d %s %s same %s refl (λ i j. tt) (fits-array %s %s)" % (verb, kin(array[1]), array[2][1], beta, n, x, pointer_in(ty), self.count(x), self.free(x), kin(array[1]), array[2][1])]
         return [begins, "lends %s %s %d %d %s (lentV %s) %s refl (λ i j. tt)" % (kin(ty[3]), beta, n, x, pointer(ty), kin(ty[3]), self.free(x))]
+
+    def relend(self, x, n, beta):
+        """A slice is lent on: whole, or its first rows; as `&mut`, or as `&`."""
+        mine, ty = reference(self.locals[n]), self.locals[x]
+        whole = self.counts.get(x, ["copy"])[0] == "copy" and items(self.counts[x][1][2]) != []
+        verb = "reshares-part" if ty[2] == "imm" else "relends" if whole else "relends-part"
+        if verb != "relends":
+            self.parts[x] = "-part"
+        count = "" if verb == "relends" else self.count(x) + " "
+        return "%s %s %s %s %d %d %s %s %ssame %s tt refl refl refl (λ i j. tt)" % (verb, kin(mine[3]), self.slot(n), beta, n, x, pointer(mine), pointer(ty), count, self.free(x))
+
+    def count(self, x):
+        """How many rows the pointer x is to lend, read off the model."""
+        opd = self.counts[x]
+        if opd[0] == "int":
+            return "(λ u. %s)" % opd[2]
+        return "(λ u. u%s .0)" % (" .1" * int(opd[1][1]))
 
     def join(self, x, value):
         """The pointer of a loan and its length make the slice that is lent on."""
@@ -259,8 +315,12 @@ class Derivation:
         p = int(parts[0][1][1]) if parts[0][0] == "copy" else None
         if p not in self.lent:
             return ["TODO-aggregate"]
-        step = "joins %s %s %d %d %s %s same %s refl refl (λ i j k. tt)" % (kin(reference(self.locals[x])[3]), self.lent[p][1], p, x, pointer(reference(self.locals[x])), self.operand(parts[1]), self.free(x))
+        loan = reference(self.locals[x])
+        verb = "joins-shr" if loan[2] == "imm" else "joins" if pointer_in(self.locals[p]) == pointer(loan) else "joins-mut"
+        types = pointer(loan) if verb == "joins" else "%s %s" % (pointer_in(self.locals[p]), pointer(loan))
+        step = "%s %s %s %d %d %s %s same %s refl refl (λ i j k. tt)" % (verb, kin(loan[3]), self.lent[p][1], p, x, types, self.operand(parts[1]), self.free(x))
         self.lent[x] = self.lent.pop(p)
+        self.parts[x] = self.parts.pop(p, "")
         self.live.discard(p)
         return [step]
 
@@ -382,7 +442,7 @@ def main(crate, name):
         body.append("abbrev F : Sc\nF = sFloat binary64")
     body.append("abbrev contract : Contract\ncontract = record { n = %d; ps = TODO; r = TODO; requires = TODO; Pre = λ κs a. TODO; Post = λ κs a z e. TODO }" % derivation.lifetimes)
     body.append("abbrev Kn : Base → Type 1\nKn o = %s" % (" × ".join("Knows %s o" % c for c in callees) or "NoCalls o"))
-    body.append("abbrev goal : Task\ngoal = task contract %d code.function Kn" % ("begins" in steps))
+    body.append("abbrev goal : Task\ngoal = task contract %d code.function Kn" % derivation.loans)
     body += ["-- the locals at the loop's head\nabbrev Hd : List Entry\nHd = %s" % head for head in derivation.heads]
     body.append("abbrev derived : Derives goal\nderived o kn κs qs bs =\n    %s" % steps)
     body.append("asked : Owes goal derived\nasked o kn κs qs a good pre bs = ?")

@@ -24,3 +24,4 @@ pub mod UistRows
 pub mod Callees
 pub mod UistCallees
 pub mod Contracts
+pub mod Public

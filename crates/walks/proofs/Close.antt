@@ -1,5 +1,5 @@
--- From the triple of a function's MIR to the function's theorem, and from its theorem to what a caller knows of it, where the contract has one plain `ensures` and
--- one plain `requires` or none. Assumes nothing.
+-- From the triple of a function's MIR to the function's theorem, and from its theorem to what a caller knows of it, where the contract has one plain `ensures` or none
+-- and one plain `requires` or none. Assumes nothing.
 use Prim.Native.Nat.{ℕ}
 use mathlib.Core.Path.{_≡_}
 use mathlib.Core.List.{List, [], _∷_}
@@ -57,9 +57,9 @@ used false φ w L Z k = k tt
 abbrev reading : {Base : (w : World) → Pr w} {Know : (w : World) → Type 1} (q : Bool) (φ : Type 0) → Read Base Know (clause q φ)
 reading q φ = record { owes = claims q φ; tells = claims q φ; wants = []; held = λ w. []; shown = λ w kn o. shown q φ w o; used = λ w L Z b ws st k. used q φ w L Z k }
 
--- ---- the theorem
+-- ---- the theorem, of a function whose `ensures` is `said`, or that has none
 
-module _ (c : Contract) where
+module _ (said : Bool) (c : Contract) where
   abbrev n : ℕ
   n = c .n
 
@@ -73,7 +73,7 @@ module _ (c : Contract) where
   req κs a g = clause (c .requires) (c .Pre κs a)
 
   abbrev ens : (κs : Lfts n) → ArgsD (S n ps r [] 0) κs → Unit {0} → ResD (S n ps r [] 0) κs → AtExit (endedOf n ps r) κs → (w : World) → Pr w
-  ens κs a g z e w = fact (w .𝓤) (c .Post κs a z e)
+  ens κs a g z e = clause said (c .Post κs a z e)
 
   abbrev read-req : (κs : Lfts n) (a : ArgsD (S n ps r [] 0) κs) (g : Unit {0}) → Read (Entered (S n ps r [] 0) κs a) no-know (req κs a g)
   read-req κs a g = reading (c .requires) (c .Pre κs a)
@@ -85,18 +85,43 @@ module _ (c : Contract) where
   Os = no-own (endedOf n ps r)
 
   abbrev read-ens : (κs : Lfts n) (a : ArgsD (S n ps r [] 0) κs) (g : Unit {0}) (z : ResD (S n ps r [] 0) κs) (e : AtExit (endedOf n ps r) κs) → Read (Written.Base n ps r Ps κs a) (Os κs z e) (ens κs a g z e)
-  read-ens κs a g z e = reading true (c .Post κs a z e)
+  read-ens κs a g z e = reading said (c .Post κs a z e)
 
   -- the theorem of a routine with this contract, as a generated statement has it
-  abbrev pub Meets : (w : World) → Routine → Type 1
-  Meets w ρ = Written.Holds n ps r (Unit {0}) req ens w (w .𝓡 .run ρ)
+  abbrev pub MeetsAt : (w : World) → Routine → Type 1
+  MeetsAt w ρ = Written.Holds n ps r (Unit {0}) req ens w (w .𝓡 .run ρ)
 
-  -- from the triple of the function f, whose key is k: `closes c w code.env name code.function (code.unfolded 𝓤 H 𝓜 𝓡) (runs ..)`
-  pub closes : (w : World) (γ : Env) (k : Name) (f : Fn) → Closed (w .𝓤) (w .H) (tables (w .𝓤) (w .H) (w .𝓜) (w .𝓡) γ .C) (tables (w .𝓤) (w .H) (w .𝓜) (w .𝓡) γ .Λ) k f
-      → Triple (w .𝓤) (WpFn (w .𝓤) (w .H) (Over (w .𝓤) (w .H) (w .𝓜) (w .𝓖) (w .𝓡) γ .C) (Over (w .𝓤) (w .H) (w .𝓜) (w .𝓖) (w .𝓡) γ .Λ) f) (plainOf (w .𝓤) (w .H) (w .𝓖 .A) n ps r (λ κs a. AllOf (claims (c .requires) (c .Pre κs a))) (c .Post))
-      → Meets w (γ k)
-  closes w γ k f closed t = Written.close n ps r (Unit {0}) req ens read-req Ps Os read-ens w γ k f closed (λ κs a g. tt) (λ κs. no-owns (endedOf n ps r) (stays ps) κs w) (λ κs a g z ws ft p q. top (w .𝓤) (emp (w .𝓤))) (λ g. t)
+  -- the triple of the function f that its derivation gives
+  abbrev Derived : (w : World) → Env → Fn → Type 1
+  Derived w γ f = Triple (w .𝓤) (WpFn (w .𝓤) (w .H) (Over (w .𝓤) (w .H) (w .𝓜) (w .𝓖) (w .𝓡) γ .C) (Over (w .𝓤) (w .H) (w .𝓜) (w .𝓖) (w .𝓡) γ .Λ) f) (plainOf (w .𝓤) (w .H) (w .𝓖 .A) n ps r (λ κs a. AllOf (claims (c .requires) (c .Pre κs a))) (λ κs a z e. AllOf (claims said (c .Post κs a z e))))
 
-  -- from the theorem of a callee whose key is k: `knows c w code.env k F.Symbol.routine code.calls-CRATE·F (F.Met.met 𝓤 H 𝓜 𝓖 𝓡)`
-  pub knows : (w : World) (γ : Env) (k : Name) (ρ : Routine) → γ k ≡ ρ → Meets w ρ → Knows (record { n = n; ps = ps; r = r; Pre = λ κs a. AllOf (claims (c .requires) (c .Pre κs a)); Post = c .Post; key = k }) (under w γ)
-  knows w γ k ρ same met = Written.cited n ps r (Unit {0}) req ens read-req Ps Os read-ens w γ k ρ same (λ κs a. tt) (λ κs a. id⊢ (w .𝓤) (emp (w .𝓤))) (λ κs a z ws ft p. tt) (λ κs. no-pins (S n ps r [] 0) κs w) met
+  -- what a caller of the function k knows
+  abbrev Told : (w : World) → Env → Name → Type 1
+  Told w γ k = Knows (record { n = n; ps = ps; r = r; Pre = λ κs a. AllOf (claims (c .requires) (c .Pre κs a)); Post = λ κs a z e. AllOf (claims said (c .Post κs a z e)); key = k }) (under w γ)
+
+  pub closesAt : (w : World) (γ : Env) (k : Name) (f : Fn) → Closed (w .𝓤) (w .H) (tables (w .𝓤) (w .H) (w .𝓜) (w .𝓡) γ .C) (tables (w .𝓤) (w .H) (w .𝓜) (w .𝓡) γ .Λ) k f → Derived w γ f → MeetsAt w (γ k)
+  closesAt w γ k f closed t = Written.close n ps r (Unit {0}) req ens read-req Ps Os read-ens w γ k f closed (λ κs a g. tt) (λ κs. no-owns (endedOf n ps r) (stays ps) κs w) (λ κs a g z ws ft p q. top (w .𝓤) (emp (w .𝓤))) (λ g. t)
+
+  pub knowsAt : (w : World) (γ : Env) (k : Name) (ρ : Routine) → γ k ≡ ρ → MeetsAt w ρ → Told w γ k
+  knowsAt w γ k ρ same met = Written.cited n ps r (Unit {0}) req ens read-req Ps Os read-ens w γ k ρ same (λ κs a. tt) (λ κs a. id⊢ (w .𝓤) (emp (w .𝓤))) (λ κs a z ws ft p. tt) (λ κs. no-pins (S n ps r [] 0) κs w) met
+
+-- of a function with an `ensures`
+
+abbrev pub Meets : Contract → (w : World) → Routine → Type 1
+Meets = MeetsAt true
+
+-- from the triple of the function f, whose key is k: `closes c w code.env name code.function (code.unfolded 𝓤 H 𝓜 𝓡) (runs ..)`
+abbrev pub closes : (c : Contract) (w : World) (γ : Env) (k : Name) (f : Fn) → Closed (w .𝓤) (w .H) (tables (w .𝓤) (w .H) (w .𝓜) (w .𝓡) γ .C) (tables (w .𝓤) (w .H) (w .𝓜) (w .𝓡) γ .Λ) k f → Derived true c w γ f → Meets c w (γ k)
+closes = closesAt true
+
+-- from the theorem of a callee whose key is k: `knows c w code.env k F.Symbol.routine code.calls-CRATE·F (F.Met.met 𝓤 H 𝓜 𝓖 𝓡)`
+abbrev pub knows : (c : Contract) (w : World) (γ : Env) (k : Name) (ρ : Routine) → γ k ≡ ρ → Meets c w ρ → Told true c w γ k
+knows = knowsAt true
+
+-- of a function without: its contract's Post is Unit
+
+abbrev pub closes-safe : (c : Contract) (w : World) (γ : Env) (k : Name) (f : Fn) → Closed (w .𝓤) (w .H) (tables (w .𝓤) (w .H) (w .𝓜) (w .𝓡) γ .C) (tables (w .𝓤) (w .H) (w .𝓜) (w .𝓡) γ .Λ) k f → Derived false c w γ f → MeetsAt false c w (γ k)
+closes-safe = closesAt false
+
+abbrev pub knows-safe : (c : Contract) (w : World) (γ : Env) (k : Name) (ρ : Routine) → γ k ≡ ρ → MeetsAt false c w ρ → Told false c w γ k
+knows-safe = knowsAt false

@@ -4,6 +4,7 @@ pub mod RowTypes
 pub mod Operands
 pub mod Steps
 pub mod Lends
+pub mod Parts
 pub mod Shape
 pub mod Calls
 pub mod Task

@@ -6,10 +6,11 @@ pub use Rattle.walks.proofs.RowTypes.{Kin, struct, enum, R, ty, ptrTo, 
 pub use Rattle.walks.proofs.Operands.{rd, to, fr, gn, flag, loc, lit, flit, unit, part, shr-ptr, shr-len, mut-ptr, mut-len, lent-len}
 pub use Rattle.walks.proofs.Steps.{drop, sets, ops, op-stmt, addrs, copies, takes, puts, reads, stores, gets, gives}
 pub use Rattle.walks.proofs.Lends.{units, begins, over, forgets, relends, joins, back, lends, home}
+pub use Rattle.walks.proofs.Parts.{arrTo, freeS, joins-shr, joins-mut, relends-part, back-part, reshares-part, back-shr, shares-array, array-shr-back, lends-array, array-back}
 pub use Rattle.walks.proofs.Shape.{upd, loops, tests, breaks, ends, leaves, returns}
 pub use Rattle.walks.proofs.Calls.{Callee, Knows, _&_, no-more, int, real, shr, mut-slice, mut-ref, by-val, by-num, by-lit, by-float, by-bool, by-slice, by-mut-slice, by-mut, calls}
 pub use Rattle.walks.proofs.Task.{Contract, callee, Task, task, NoCalls, here, Derives, Owes, Runs, runs}
-pub use Rattle.walks.proofs.Close.{world, under, Meets, closes, knows}
+pub use Rattle.walks.proofs.Close.{world, under, Meets, closes, knows, closes-safe, knows-safe}
 pub use Rattle.walks.proofs.Pastes.{falls, reached}
 -- ---- the kit
 pub use Prim.Native.Nat.{ℕ, _≤_, _+_, _-_, _*_, _^_, _<_}

@@ -1,0 +1,347 @@
+"""A plain broker after document 01, for the generator: it knows what each call draws, so that
+scenarios reach deep states and stand exactly on the rules' boundaries. Orders are tuples (kind,
+symbol, shares, price or None), quotes (symbol, bid, ask, date), costs (name, amount)."""
+
+from floats import NAN, ceil, div, finite, floor
+
+BOOK = 1024
+BUFFER = 1000.0
+BUYS = ("mb", "lb", "sb")
+
+
+def is_buy(order):
+    return order[0] in BUYS
+
+
+def table_fault(rows):
+    """The number that a table of quotes draws, or 0."""
+    least = 0
+    for symbol, bid, ask, _date in rows:
+        if symbol > 255:
+            return 1
+        if not (finite(bid) and finite(ask) and bid > 0.0 and ask > 0.0):
+            return 2
+        if symbol < least:
+            return 3
+        least = symbol + 1
+    return 0
+
+
+def weights_fault(rows):
+    least = 0
+    for symbol, weight in rows:
+        if symbol > 255:
+            return 1
+        if not finite(weight):
+            return 2
+        if symbol < least:
+            return 3
+        least = symbol + 1
+    return 0
+
+
+def order_fault(order):
+    _kind, symbol, shares, price = order
+    if symbol > 255:
+        return 1
+    if not finite(shares) or (price is not None and not finite(price)):
+        return 2
+    return 0
+
+
+def impact(costs, budget, price, buying):
+    for name, amount in costs:
+        if name == "per_share":
+            price = price + amount if buying else price - amount
+        elif name == "pct_of_value":
+            budget = budget * (1.0 - amount)
+        else:
+            budget = budget - amount
+    return budget, price
+
+
+def meets(order, bid, ask):
+    """Does a booked order trade at this row?"""
+    kind, price = order[0], order[3]
+    if kind in ("mb", "ms"):
+        return True
+    if price is None:
+        return kind in ("ls", "sb")
+    if kind == "lb":
+        return price >= ask
+    if kind == "ls":
+        return price <= bid
+    if kind == "sb":
+        return price <= ask
+    return price >= bid
+
+
+class Model:
+    def __init__(self):
+        self.build(0, [], [])
+
+    def build(self, log, costs, first):
+        """Starts anew; answers the number drawn, or 0."""
+        self.log = self.lent = log
+        self.costs = list(costs)
+        self.cash = 0.0
+        self.latest, self.held, self.pending = {}, {}, {}
+        self.failed = False
+        self.waiting, self.resting = [], []
+        self.taken = self.given = self.logged = 0
+        self.silent = []
+        number = self.build_fault(costs, first)
+        self.dead = number != 0
+        if not self.dead:
+            self.latest = {row[0]: row for row in first}
+        return number
+
+    @staticmethod
+    def build_fault(costs, first):
+        if len(costs) > 16:
+            return 14
+        if any(not finite(amount) for _name, amount in costs):
+            return 2
+        return table_fault(first)
+
+    def broken(self, lends=False):
+        return self.dead or (lends and self.lent != self.log)
+
+    def value(self, symbol):
+        """The value of a position, or None."""
+        if symbol in self.latest and symbol in self.held:
+            return self.latest[symbol][1] * self.held[symbol]
+        return None
+
+    def total(self):
+        sum_ = self.cash
+        for symbol in sorted(self.held):
+            value = self.value(symbol)
+            if value is not None:
+                sum_ += value
+        return sum_
+
+    def liquidation_value(self):
+        sum_ = self.cash
+        for symbol in sorted(self.held):
+            value = self.value(symbol)
+            if value is not None:
+                sum_ += impact(self.costs, value, 0.0, False)[0]
+        return sum_
+
+    def cash_fault(self, amount, heeds_failed=True):
+        if self.dead:
+            return 16
+        if not finite(amount):
+            return 2
+        return 4 if self.failed and heeds_failed else 0
+
+    def deposit(self, amount):
+        number = self.cash_fault(amount)
+        if number == 0:
+            self.cash = amount + self.cash
+        return number
+
+    def withdraw(self, amount):
+        number = self.cash_fault(amount)
+        if number == 0 and amount > self.cash:
+            return 12
+        if number == 0:
+            self.cash = self.cash - amount
+        return number
+
+    def send_fault(self, order):
+        kind, symbol, shares, _price = order
+        number = order_fault(order)
+        if number:
+            return number
+        if self.failed:
+            return 4
+        if symbol not in self.latest:
+            return 5
+        if kind not in ("mb", "ms"):
+            return 6
+        if kind == "mb" and not self.cash > shares * self.latest[symbol][2]:
+            return 7
+        if kind == "ms" and symbol in self.held and not self.held[symbol] >= shares:
+            return 8
+        return 9 if shares == 0.0 else self.room_fault()
+
+    def room_fault(self):
+        if self.taken == self.log:
+            return 10
+        return 11 if len(self.resting) + len(self.waiting) == BOOK else 0
+
+    def take(self, order):
+        self.waiting.append(order)
+        self.taken += 1
+
+    def send(self, order):
+        if self.dead:
+            return 16
+        number = self.send_fault(order)
+        if number == 0:
+            self.take(order)
+            symbol, shares = order[1], order[2]
+            effect = shares if is_buy(order) else -shares
+            old = self.pending.get(symbol)
+            self.pending[symbol] = effect if old is None else old + effect
+        return number
+
+    def insert(self, order):
+        if self.dead:
+            return 16
+        number = order_fault(order) or self.room_fault()
+        if number == 0:
+            self.take(order)
+        return number
+
+    def send_list(self, room, orders):
+        """The refusal's number, and the events' numbers."""
+        if self.dead:
+            return 16, []
+        if room < len(orders):
+            return 15, []
+        return 0, [self.send(order) for order in orders]
+
+    def delete(self, number):
+        if self.dead:
+            return 16
+        self.resting = [x for x in self.resting if x[0] != number]
+        return 0
+
+    def tick(self, rows):
+        """The trades (order, value), in book order; then the waiting orders are booked."""
+        table = {row[0]: row for row in rows}
+        trades, kept = [], []
+        for number, order in self.resting:
+            row = table.get(order[1])
+            if row is not None and meets(order, row[1], row[2]):
+                price = row[2] if is_buy(order) else row[1]
+                trades.append((order, price * order[2]))
+            else:
+                kept.append((number, order))
+        sells = [order for order in self.waiting if not is_buy(order)]
+        buys = [order for order in self.waiting if is_buy(order)]
+        for order in sells + buys:
+            kept.append((self.given, order))
+            self.given += 1
+        self.resting, self.waiting = kept, []
+        self.logged += len(trades)
+        return trades
+
+    def book(self, order, value):
+        symbol, shares = order[1], order[2]
+        held = self.held.get(symbol, 0.0)
+        pending = self.pending.get(symbol, 0.0)
+        if is_buy(order):
+            self.cash, held, pending = self.cash - value, held + shares, pending - shares
+        else:
+            self.cash, held, pending = value + self.cash, held - shares, pending + shares
+        for kept, amount in ((self.held, held), (self.pending, pending)):
+            if amount == 0.0:
+                kept.pop(symbol, None)
+            else:
+                kept[symbol] = amount
+
+    def check(self, tradable, fetched):
+        if self.broken(lends=True):
+            return 16
+        number = table_fault(tradable) or table_fault(fetched)
+        if number:
+            return number
+        trades = self.tick(tradable)
+        for row in fetched:
+            self.latest[row[0]] = row
+        for order, value in trades:
+            self.book(order, value)
+        if self.cash < 0.0 and not self.sell_off(-self.cash + BUFFER):
+            self.failed = True
+        return 0
+
+    def sales(self, amount):
+        """The orders of a liquidation and what is left; None for orders where it cannot begin."""
+        if amount > self.liquidation_value():
+            return None, amount
+        orders, rest = [], amount
+        for symbol in sorted(self.held):
+            value = self.value(symbol)
+            value = 0.0 if value is None else value
+            if value <= rest:
+                orders.append(("ms", symbol, self.held[symbol], None))
+                rest -= value
+                continue
+            if symbol not in self.latest:
+                self.silent.append("unquoted")
+                return orders, NAN
+            orders.append(("ms", symbol, div(rest, ceil(self.latest[symbol][1])), None))
+            return orders, 0.0
+        return orders, rest
+
+    def sell_off(self, amount):
+        """A liquidation; notes in `silent` the numbers that no answer shows."""
+        orders, rest = self.sales(amount)
+        if orders is not None and rest == 0.0:
+            for order in orders:
+                number = self.send(order)
+                if number:
+                    self.silent.append(number)
+            return True
+        if not amount > self.cash:
+            self.cash = self.cash - amount
+        return False
+
+    def liquidate(self, amount):
+        number = self.cash_fault(amount, heeds_failed=False)
+        if number:
+            return number
+        return 0 if self.sell_off(amount) else 12
+
+    def shares_for(self, difference, row):
+        if difference < 0.0:
+            budget, price = impact(self.costs, -difference, row[1], False)
+            return -floor(div(budget, price))
+        budget, price = impact(self.costs, difference, row[2], True)
+        return floor(div(budget, price))
+
+    def plan(self, weights):
+        """The walk's orders, or None where there is no value."""
+        total = self.liquidation_value()
+        if total == 0.0:
+            return None
+        sells, buys = [], []
+        for symbol, weight in weights:
+            value = self.value(symbol)
+            difference = total * weight - (0.0 if value is None else value)
+            if difference == 0.0:
+                break
+            if symbol not in self.latest:
+                continue
+            shares = self.shares_for(difference, self.latest[symbol])
+            if shares > 0.0:
+                buys.append(("mb", symbol, shares, None))
+            elif shares != 0.0:
+                sells.append(("ms", symbol, abs(shares), None))
+        return sells + buys
+
+    def walk(self, room, weights):
+        if self.dead:
+            return 16
+        if room < len(weights):
+            return 15
+        return weights_fault(weights) or (13 if self.plan(weights) is None else 0)
+
+    def update(self, room, tradable, fetched, weights):
+        """The refusal's number, and the events' numbers."""
+        if self.broken(lends=True):
+            return 16, []
+        if room < len(weights):
+            return 15, []
+        number = table_fault(tradable) or table_fault(fetched) or weights_fault(weights)
+        if number:
+            return number, []
+        self.check(tradable, fetched)
+        orders = self.plan(weights)
+        if orders is None:
+            return 13, []
+        return 0, [self.send(order) for order in orders]

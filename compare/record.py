@@ -1,0 +1,171 @@
+"""Records the answers that the gate replays: runs the engine and the Rust on crates/rehearse/stdin and
+writes crates/rehearse/stdout, and the lists at the end of docs/RECORDED.md. A line's answer is the Rust's
+until the engine draws an added number or the Rust panics; from there to the next `new` it is the engine's
+and rests on document 01 alone. Exit status 1 where the two differ before that, or, with --check, where
+the files are not what would be written."""
+
+import argparse
+import os
+import sys
+
+# Nothing is written beside the sources.
+sys.dont_write_bytecode = True
+
+import forms
+import judge
+import programs
+import table
+from reread import reread
+
+ROOT = os.path.dirname(os.path.dirname(os.path.abspath(__file__)))
+INPUT = os.path.join(ROOT, "crates", "rehearse", "stdin")
+OUTPUT = os.path.join(ROOT, "crates", "rehearse", "stdout")
+PAPER = os.path.join(ROOT, "docs", "RECORDED.md")
+HEADING = "## Which line draws which number\n"
+# The rows of the log of a program that is started without arguments.
+LOG_ROWS = 131072
+# The Rust's driver answers these by itself, also where the comparison has stopped.
+OWN_WORDS = ("quiet", "full")
+
+
+class Recording:
+    """The output; the lines that are the oracle's and those that are the engine's; who draws what."""
+
+    def __init__(self):
+        self.output = b""
+        self.oracle, self.engine = [], []
+        self.drawn, self.silent = {}, {}
+
+    def add(self, number, block, decided):
+        self.output += block + b"\n"
+        (self.oracle if decided else self.engine).append(number)
+
+    def note(self, number, verb, mark):
+        for drawn in sorted(set(mark[0])):
+            self.drawn.setdefault(drawn, {}).setdefault(verb, []).append(number)
+        for drawn in sorted({n for n in mark[1] if n != "unquoted"}):
+            self.silent.setdefault(drawn, []).append(number)
+
+
+def answered(text):
+    """The lines that have an answer, each with its number."""
+    lines = enumerate(text.split(b"\n"), 1)
+    return [(number, line) for number, line in lines if not forms.passed_over(line)]
+
+
+def run(program, text, lines):
+    """A program's answer to each of these lines."""
+    blocks = judge.blocks(programs.answers(program, text))
+    if len(blocks) != len(lines):
+        raise judge.Difference("%s answers %d lines of %d" % (program, len(blocks), len(lines)))
+    for (number, _line), block in zip(lines, blocks):
+        if not block.startswith(b"%d " % number):
+            raise judge.Difference("%s does not answer line %d in its place" % (program, number))
+    return blocks
+
+
+def record(text, engine, oracle):
+    """The recording; raises Difference where the two programs differ and the oracle decides."""
+    lines = answered(text)
+    recording = Recording()
+    judging = judge.Judge(judge.Tally())
+    marks = iter(reread([line.decode() for _number, line in lines if not forms.malformed(line, LOG_ROWS)]).marks)
+    for (number, line), one, other in zip(lines, run(engine, text, lines), run(oracle, text, lines)):
+        decided = True
+        if forms.malformed(line, LOG_ROWS):
+            if one != b"%d malformed" % number:
+                raise judge.Difference("line %d is malformed" % number)
+        else:
+            decided = judged(recording, judging, number, line.decode(), next(marks), one, other)
+        if decided and one != other:
+            raise judge.Difference("line %d: the answers or states differ" % number)
+        recording.add(number, other if decided else one, decided)
+    return recording
+
+
+def judged(recording, judging, number, line, mark, one, other):
+    """Does the oracle decide the answer to this line? Its numbers are compared with document 01's anyway."""
+    verb = line.split()[0]
+    try:
+        judging.line(line, mark, one, other)
+    except judge.Difference as difference:
+        raise judge.Difference("line %d: %s" % (number, difference))
+    recording.note(number, verb, mark)
+    return judging.stopped is None or verb in OWN_WORDS
+
+
+def ranges(numbers):
+    """Line numbers as text, runs of them shortened."""
+    runs = []
+    for number in numbers:
+        if runs and runs[-1][1] == number - 1:
+            runs[-1][1] = number
+        else:
+            runs.append([number, number])
+    return ", ".join(str(a) if a == b else "%d to %d" % (a, b) for a, b in runs)
+
+
+def verb_place(item):
+    return table.KINDS.index(item[0])
+
+
+def lists(recording):
+    """The generated end of the paper."""
+    rows = [HEADING, "| number | line of stdin, by call | unreported, in a liquidation |", "|---|---|---|"]
+    for number in sorted(recording.drawn):
+        calls = sorted(recording.drawn[number].items(), key=verb_place)
+        by_call = "; ".join("`%s` %s" % (verb, ranges(at)) for verb, at in calls)
+        rows.append("| %d | %s | %s |" % (number, by_call, ranges(recording.silent.get(number, []))))
+    rows += ["", "## Lines that rest on document 01 alone", "",
+             "%d of %d answered lines:" % (len(recording.engine), len(recording.engine + recording.oracle)), "",
+             ranges(recording.engine) + ".", ""]
+    return "\n".join(rows)
+
+
+def files(recording):
+    """What the two files are to hold."""
+    with open(PAPER, encoding="utf-8") as paper:
+        head = paper.read().split(HEADING)[0]
+    return [(OUTPUT, recording.output), (PAPER, (head + lists(recording)).encode())]
+
+
+def stale(path, content):
+    """Is the file missing, or other than this?"""
+    if not os.path.exists(path):
+        return True
+    with open(path, "rb") as there:
+        return there.read() != content
+
+
+def options():
+    parser = argparse.ArgumentParser(description=__doc__)
+    parser.add_argument("--check", action="store_true", help="write nothing, say whether the files are right")
+    parser.add_argument("--engine", default=os.path.join(ROOT, "target", "bin", "rehearse"))
+    parser.add_argument("--oracle", default=os.path.join(ROOT, "target", "oracle", "bent"))
+    return parser.parse_args()
+
+
+def main():
+    given = options()
+    for path in (given.engine, given.oracle):
+        if not os.access(path, os.X_OK):
+            sys.exit("There is no program at %s." % path)
+    with open(INPUT, "rb") as text:
+        try:
+            recording = record(text.read(), given.engine, given.oracle)
+        except (judge.Difference, programs.Crash) as fault:
+            sys.exit("not recorded: %s" % fault)
+    print("%d lines are the oracle's, %d rest on document 01 alone" % (len(recording.oracle), len(recording.engine)))
+    wrong = [(path, content) for path, content in files(recording) if stale(path, content)]
+    for path, content in wrong:
+        print("%s %s" % (os.path.relpath(path, ROOT), "is not as recorded" if given.check else "is written"))
+        if not given.check:
+            with open(path, "wb") as out:
+                out.write(content)
+    if given.check:
+        print("the files are as recorded" if not wrong else "the files are not as recorded")
+        sys.exit(1 if wrong else 0)
+
+
+if __name__ == "__main__":
+    main()

@@ -1,0 +1,191 @@
+// The broker's calls on lent lists, for a caller whose lists are arrays: each lends the first rows of
+// its arrays.
+ghost use mathlib.Core.Path.{_≡_};
+ghost use Prim.Native.Nat.{_≤_, min};
+use broker::build::Built;
+use broker::send::OrderEvent;
+use broker::state::UistBroker;
+use costs::TradeCosts;
+use lent::uist;
+use lent::uist::CheckAnswer;
+use lent::uist::SendAnswer;
+use lent::uist::UpdateAnswer;
+use lent::uist::WalkAnswer;
+use market::order::Order;
+use market::quote::Quote;
+use market::trade::Trade;
+use market::weight::Weight;
+
+// An answer, with the list of events that was lent.
+pub struct UpdatedList {
+    pub answer: UpdateAnswer,
+    pub events: [OrderEvent; 1024],
+}
+
+pub struct SentList {
+    pub answer: SendAnswer,
+    pub events: [OrderEvent; 1024],
+}
+
+// An answer, with the list of orders that was lent.
+pub struct WalkedList {
+    pub answer: WalkAnswer,
+    pub orders: [Order; 1024],
+}
+
+pub fn at_most(n: usize, most: usize) -> usize
+    ensures { λ r. ⌜ r ≡ min n most ⌝ }
+{
+    if n < most { n } else { most }
+}
+
+pub fn no_events() -> [OrderEvent; 1024] {
+    let o = Order::market_sell(0, 0.0);
+    let e = OrderEvent {
+        order: o,
+        number: 0,
+    };
+    [e; 1024]
+}
+
+pub fn no_orders() -> [Order; 1024] {
+    let o = Order::market_sell(0, 0.0);
+    [o; 1024]
+}
+
+pub fn updated(answer: UpdateAnswer, events: [OrderEvent; 1024]) -> UpdatedList {
+    UpdatedList {
+        answer: answer,
+        events: events,
+    }
+}
+
+pub fn sent(answer: SendAnswer, events: [OrderEvent; 1024]) -> SentList {
+    SentList {
+        answer: answer,
+        events: events,
+    }
+}
+
+pub fn walked(answer: WalkAnswer, orders: [Order; 1024]) -> WalkedList {
+    WalkedList {
+        answer: answer,
+        orders: orders,
+    }
+}
+
+// The rows of a line's tables and weights, and the length of the lent list for events or orders.
+pub struct Lists {
+    pub tradable: [Quote; 512],
+    pub first: usize,
+    pub fetched: [Quote; 512],
+    pub second: usize,
+    pub weights: [Weight; 512],
+    pub third: usize,
+    pub room: usize,
+}
+
+// Orders, and the length of the lent list for their events.
+pub struct Orders {
+    pub list: [Order; 1024],
+    pub count: usize,
+    pub room: usize,
+}
+
+pub fn orders_in(x: Orders) -> [Order; 1024] {
+    x.list
+}
+
+pub fn order_rows(x: Orders) -> usize
+    ensures { λ r. ⌜ r ≡ min (x .count) 1024 ⌝ }
+{
+    at_most(x.count, 1024)
+}
+
+pub fn sent_rows(x: Orders) -> usize
+    ensures { λ r. ⌜ r ≡ min (x .room) 1024 ⌝ }
+{
+    at_most(x.room, 1024)
+}
+
+pub fn tradable_in(x: Lists) -> [Quote; 512] {
+    x.tradable
+}
+
+pub fn fetched_in(x: Lists) -> [Quote; 512] {
+    x.fetched
+}
+
+pub fn weights_in(x: Lists) -> [Weight; 512] {
+    x.weights
+}
+
+pub fn tradable_rows(x: Lists) -> usize
+    ensures { λ r. ⌜ r ≡ min (x .first) 512 ⌝ }
+{
+    at_most(x.first, 512)
+}
+
+pub fn fetched_rows(x: Lists) -> usize
+    ensures { λ r. ⌜ r ≡ min (x .second) 512 ⌝ }
+{
+    at_most(x.second, 512)
+}
+
+pub fn weight_rows(x: Lists) -> usize
+    ensures { λ r. ⌜ r ≡ min (x .third) 512 ⌝ }
+{
+    at_most(x.third, 512)
+}
+
+pub fn event_rows(x: Lists) -> usize
+    ensures { λ r. ⌜ r ≡ min (x .room) 1024 ⌝ }
+{
+    at_most(x.room, 1024)
+}
+
+// A fresh broker for the lent log.
+pub fn build_on(costs: TradeCosts, x: Lists, log: &[Trade]) -> Built {
+    let t = tradable_in(x);
+    let k = tradable_rows(x);
+    uist::build(costs, &t[..k], log)
+}
+
+pub fn check_on(b: UistBroker, x: Lists, log: &mut [Trade]) -> CheckAnswer {
+    let t = tradable_in(x);
+    let f = fetched_in(x);
+    let k = tradable_rows(x);
+    let l = fetched_rows(x);
+    uist::check(b, &t[..k], &f[..l], log)
+}
+
+pub fn send_on(b: UistBroker, x: Orders) -> SentList {
+    let o = orders_in(x);
+    let k = order_rows(x);
+    let r = sent_rows(x);
+    let mut events = no_events();
+    let y = uist::send_orders(b, &o[..k], &mut events[..r]);
+    sent(y, events)
+}
+
+pub fn walk_on(b: UistBroker, x: Lists) -> WalkedList {
+    let w = weights_in(x);
+    let m = weight_rows(x);
+    let r = event_rows(x);
+    let mut orders = no_orders();
+    let y = uist::diff_against_target_weights(b, &w[..m], &mut orders[..r]);
+    walked(y, orders)
+}
+
+pub fn update_on(b: UistBroker, x: Lists, log: &mut [Trade]) -> UpdatedList {
+    let t = tradable_in(x);
+    let f = fetched_in(x);
+    let w = weights_in(x);
+    let k = tradable_rows(x);
+    let l = fetched_rows(x);
+    let m = weight_rows(x);
+    let r = event_rows(x);
+    let mut events = no_events();
+    let y = uist::update(b, &t[..k], &f[..l], &w[..m], &mut events[..r], log);
+    updated(y, events)
+}

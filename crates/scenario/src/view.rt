@@ -1,0 +1,221 @@
+// What a run keeps beside the broker: the lent log's rows, what is shown, and the calls' time.
+ghost use Prim.Native.Nat.{_≤_};
+use crate::answer;
+use crate::answer::Head;
+use crate::plain_calls::Done;
+use broker::read::FloatRead;
+use broker::state::UistBroker;
+use costs::TradeCosts;
+use market::table::Table;
+use market::trade::Trade;
+use text::call::Call;
+use text::input::Input;
+use text::verb::Verb;
+
+// `rows` of the log are lent; the first `shown` trades were shown, and `traded` says which symbols
+// they are of; `calls` were made since the last `clock`, in `micros`.
+pub struct View {
+    pub rows: usize,
+    pub quiet: bool,
+    pub shown: usize,
+    pub traded: [bool; 256],
+    pub calls: u64,
+    pub micros: u64,
+}
+
+// The symbols that have traded, ascending: the first `count`.
+pub struct Symbols {
+    pub list: [u32; 256],
+    pub count: usize,
+}
+
+pub fn fresh() -> View {
+    View {
+        rows: 0,
+        quiet: false,
+        shown: 0,
+        traded: [false; 256],
+        calls: 0,
+        micros: 0,
+    }
+}
+
+// The broker before the first `new`: no log, no quotes.
+pub fn first_broker() -> UistBroker {
+    let x = UistBroker::build(TradeCosts::none(), Table::empty(), 0);
+    x.broker
+}
+
+pub fn rows(v: View) -> usize {
+    v.rows
+}
+
+// The lent log's rows follow `new` and `lend`; a `new` has shown no trade.
+pub fn before(v: View, c: Call) -> View {
+    let verb = c.verb;
+    let mut w = v;
+    match verb {
+        Verb::New => {
+            w.rows = c.log as usize;
+            w.shown = 0;
+            w.traded = [false; 256];
+            w
+        }
+        Verb::Lend => {
+            w.rows = c.log as usize;
+            w
+        }
+        _ => w,
+    }
+}
+
+// Is a line of this verb a call on a broker?
+fn is_call(verb: Verb) -> bool {
+    match verb {
+        Verb::Blank => false,
+        Verb::Malformed => false,
+        Verb::Lend => false,
+        Verb::State => false,
+        Verb::Quiet => false,
+        Verb::Full => false,
+        Verb::Clock => false,
+        _ => true,
+    }
+}
+
+fn sum(a: u64, b: u64) -> u64 {
+    if a > 18446744073709551615 - b {
+        return a;
+    }
+    a + b
+}
+
+fn clocked(v: View, head: Head) -> View {
+    answer::wholes(head, v.calls, v.micros);
+    let mut w = v;
+    w.calls = 0;
+    w.micros = 0;
+    w
+}
+
+// What the run keeps after a call; the lines that make none are answered.
+pub fn after(v: View, d: Done, c: Call, x: Input) -> View {
+    let verb = c.verb;
+    let head = Head {
+        line: x.line,
+        verb: verb,
+    };
+    let mut w = v;
+    if is_call(verb) {
+        w.calls = sum(v.calls, 1);
+        w.micros = sum(v.micros, d.micros);
+    }
+    match verb {
+        Verb::Lend => {
+            answer::worded(head, 0, b"lent");
+            w
+        }
+        Verb::State => {
+            answer::bare(head);
+            w
+        }
+        Verb::Quiet => {
+            answer::bare(head);
+            w.quiet = true;
+            w
+        }
+        Verb::Full => {
+            answer::bare(head);
+            w.quiet = false;
+            w
+        }
+        Verb::Clock => clocked(w, head),
+        _ => w,
+    }
+}
+
+// Is what the broker holds not shown after this line?
+pub fn is_hidden(v: View, c: Call) -> bool {
+    let verb = c.verb;
+    match verb {
+        Verb::State => false,
+        Verb::Floor => true,
+        Verb::Ceil => true,
+        _ => v.quiet || !is_call(verb),
+    }
+}
+
+pub fn is_broken(b: UistBroker) -> bool {
+    let x = b.get_cash_balance();
+    x.number != 0
+}
+
+pub fn first_row(v: View) -> usize {
+    v.shown
+}
+
+// The log's rows that hold trades, of `length` rows: none where a number is drawn.
+pub fn last_row(b: UistBroker, turnover: FloatRead, length: usize) -> usize
+    ensures { λ r. ⌜ r ≤ length ⌝ }
+{
+    let x = b.executed_trade_count();
+    if turnover.number != 0 {
+        return 0;
+    }
+    if x.count < length as u64 {
+        return x.count as usize;
+    }
+    length
+}
+
+// A trade is seen: its symbol has traded.
+pub fn seen(v: View, t: Trade) -> View {
+    let mut w = v;
+    let at = t.symbol as usize;
+    if at < 256 {
+        w.traded[at] = true;
+    }
+    w
+}
+
+pub fn shown(v: View, last: usize) -> View {
+    let mut w = v;
+    if last > v.shown {
+        w.shown = last;
+    }
+    w
+}
+
+fn with_symbol(s: Symbols, symbol: u32) -> Symbols {
+    let mut r = s;
+    let n = s.count;
+    if n < 256 {
+        r.list[n] = symbol;
+        r.count = n + 1;
+    }
+    r
+}
+
+// The symbols that have traded; none where a number is drawn.
+pub fn traded_symbols(v: View, turnover: FloatRead) -> Symbols {
+    let mut s = Symbols {
+        list: [0; 256],
+        count: 0,
+    };
+    let mut i: usize = 0;
+    while i < 256 {
+        if v.traded[i] && turnover.number == 0 {
+            s = with_symbol(s, i as u32);
+        }
+        i = i + 1;
+    }
+    s
+}
+
+pub fn symbol_count(s: Symbols) -> usize {
+    s.count
+}
+
+pub fn symbol_at(s: Symbols, i: usize) -> u32 {
+    if i < 256 { s.list[i] } else { 0 }
+}

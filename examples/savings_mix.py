@@ -1,0 +1,117 @@
+"""savings_mix.py: print the scenario of a savings plan in ten securities over five years of closing quotes.
+
+The securities and every quote are made up by this rule, so that each machine gets the same text.
+
+Days: Monday to Friday from 2021 to 2025, without 1 January, Good Friday, Easter Monday, 1 May, 25 and 26 December.
+Draws: a state of 32 bits starts at SEED and steps by 1,664,525 times itself plus 1,013,904,223, modulo 2^32; a draw is
+the new state divided by 65,536, whole part. A shock is the sum of twelve draws over 65,536, less 6: about normal, mean 0, deviation 1.
+Quotes: each day has a common shock, then one of its own for each security in turn. Its mid moves by
+drift / 252 + volatility / sqrt(252) * (c * common + sqrt(1 - c * c) * own) of itself and is rounded to cents.
+Bid and ask lie 0.05 % of the mid, rounded up to cents, below and above it.
+
+Plan: 20,000 is paid in on the first day and 500 on the first trading day of each later month. On these days the account is
+rebalanced by `update`; on every other day it is only checked. An order waits until the next day's check books it and trades a day
+later, so a rebalancing each day would send orders again before the first ones have filled: months, not days, are the plan's rhythm.
+The weights sum to 0.95: the cash left over absorbs price moves between sending and filling.
+Costs: 0.1 % of the value and 1 flat. They make orders smaller; the engine does not take them from cash.
+"""
+import datetime
+import math
+
+import words
+
+SEED = 35
+FIRST_PAYMENT = 20000.0
+MONTHLY_PAYMENT = 500.0
+LOG = 4096
+EASTER = {2021: (4, 4), 2022: (4, 17), 2023: (4, 9), 2024: (3, 31), 2025: (4, 20)}
+# name, weight, first mid, drift a year, volatility a year, c
+MIX = [
+    ("world shares", 0.30, 38.40, 0.075, 0.15, 0.90),
+    ("emerging market shares", 0.08, 21.15, 0.070, 0.19, 0.75),
+    ("small company shares", 0.07, 26.80, 0.080, 0.20, 0.80),
+    ("property shares", 0.05, 14.60, 0.050, 0.17, 0.65),
+    ("euro government bonds", 0.15, 32.25, 0.020, 0.05, 0.05),
+    ("euro company bonds", 0.10, 24.70, 0.030, 0.05, 0.35),
+    ("inflation-linked bonds", 0.06, 18.95, 0.025, 0.06, 0.10),
+    ("short-dated bonds", 0.06, 12.10, 0.020, 0.015, 0.05),
+    ("gold", 0.05, 16.45, 0.045, 0.14, 0.10),
+    ("money market", 0.03, 50.25, 0.020, 0.003, 0.00),
+]
+
+
+class Draws:
+    def __init__(self, seed):
+        self.state = seed
+
+    def shock(self):
+        total = 0
+        for _ in range(12):
+            self.state = (self.state * 1664525 + 1013904223) % 2**32
+            total += self.state // 65536
+        return total / 65536 - 6
+
+
+def closed(day):
+    easter = datetime.date(day.year, *EASTER[day.year])
+    holidays = [(1, 1), (5, 1), (12, 25), (12, 26)]
+    return day.weekday() > 4 or (day.month, day.day) in holidays or (day - easter).days in (-2, 1)
+
+
+def trading_days():
+    day, last = datetime.date(2021, 1, 1), datetime.date(2025, 12, 31)
+    while day <= last:
+        if not closed(day):
+            yield day
+        day += datetime.timedelta(days=1)
+
+
+def table(cents, date):
+    """The rows of a day, from the mids in whole cents."""
+    rows = []
+    for symbol, mid in enumerate(cents):
+        half = math.ceil(mid / 2000)
+        rows.append(words.quote(symbol, (mid - half) / 100, (mid + half) / 100, date))
+    return " ".join(rows)
+
+
+def moved(cents, draws):
+    """The next day's mids."""
+    common, mids = draws.shock(), []
+    for mid, (_, _, _, drift, volatility, c) in zip(cents, MIX):
+        shock = c * common + math.sqrt(1 - c * c) * draws.shock()
+        mids.append(round(mid * (1 + drift / 252 + volatility / math.sqrt(252) * shock)))
+    return mids
+
+
+def day_lines(rows, payment):
+    """A trading day: the payment and the rebalancing where one is due, and the figures of the evening."""
+    if payment:
+        parts = " ".join(words.weight(s, row[1]) for s, row in enumerate(MIX))
+        yield f"deposit {words.bits(payment)}"
+        yield f"update {len(MIX)} {rows} / {rows} / {parts}"
+    else:
+        yield f"check {rows} / {rows}"
+    yield from ("get_total_value", "get_cash_balance", "executed_trade_count")
+
+
+def scenario():
+    draws, cents = Draws(SEED), [round(row[2] * 100) for row in MIX]
+    month = None
+    yield "# A savings plan in ten made-up securities, made by examples/savings_mix.py."
+    for symbol, row in enumerate(MIX):
+        yield f"# name {symbol} {row[0]}"
+    yield "quiet"
+    for day in trading_days():
+        rows = table(cents, f"{day:%Y%m%d}")
+        if month is None:
+            costs = f"pct_of_value:{words.bits(0.001)} flat:{words.bits(1.0)}"
+            yield f"new {LOG} {costs} / {rows}"
+        payment = 0.0 if month == day.month else MONTHLY_PAYMENT if month else FIRST_PAYMENT
+        yield from day_lines(rows, payment)
+        month, cents = day.month, moved(cents, draws)
+    yield "state"
+
+
+if __name__ == "__main__":
+    print("\n".join(scenario()))

@@ -1,0 +1,131 @@
+//! Writes what the broker and its exchange hold, as the eight lines of docs/SCENARIOS.md.
+
+use rotala::exchange::uist_v1::{resting, waiting, Trade, UistV1};
+use rotala_client::broker::{BrokerState, BrokerStates, Portfolio, PortfolioHoldings, Quote};
+
+use crate::shared::Broker;
+use crate::text::{
+    put, put_float, put_optional, put_order, put_quote, put_symbol, put_trade, put_whole,
+};
+
+fn trades(broker: &Broker) -> Vec<Trade> {
+    broker.trades_between(&i64::MIN, &i64::MAX)
+}
+
+fn sum_of_values(trades: &[Trade]) -> f64 {
+    trades.iter().fold(0.0, |sum, trade| sum + trade.value)
+}
+
+pub fn turnover(broker: &Broker) -> f64 {
+    sum_of_values(&trades(broker))
+}
+
+fn number(name: &str) -> u32 {
+    name.parse().expect("every name here is a number")
+}
+
+pub fn state_word(broker: &Broker) -> &'static str {
+    match broker.get_broker_state() {
+        BrokerState::Ready => "Ready",
+        BrokerState::Failed => "Failed",
+    }
+}
+
+/// What is worked out from the log, kept until the log has grown.
+#[derive(Default)]
+pub struct Logged {
+    trades: Vec<Trade>,
+    turnover: f64,
+    bases: Vec<(String, Option<f64>)>,
+    shown: usize,
+}
+
+impl Logged {
+    fn refresh(&mut self, broker: &Broker, count: usize) {
+        if count == self.trades.len() {
+            return;
+        }
+        self.trades = trades(broker);
+        self.turnover = sum_of_values(&self.trades);
+        let mut names: Vec<&str> = self.trades.iter().map(|trade| &trade.symbol[..]).collect();
+        names.sort_unstable_by_key(|name| number(name));
+        names.dedup();
+        let basis = |name: &str| (name.to_string(), broker.cost_basis(name));
+        self.bases = names.into_iter().map(basis).collect();
+    }
+
+    /// Writes the eight lines.
+    pub fn put_state(&mut self, out: &mut Vec<u8>, broker: &Broker, exchange: &UistV1) {
+        self.refresh(broker, exchange.executed_trade_count());
+        put_figures(out, broker, self.turnover);
+        put_map(out, "\n held", broker.get_holdings());
+        put_map(out, "\n pending", broker.get_pending_orders());
+        put_latest(out, broker);
+        put(out, "\n basis");
+        for (name, basis) in &self.bases {
+            out.push(b' ');
+            put_symbol(out, name);
+            out.push(b':');
+            put_optional(out, *basis);
+        }
+        put(out, "\n trades ");
+        put_whole(out, self.trades.len() as u64);
+        for trade in &self.trades[self.shown..] {
+            out.push(b' ');
+            put_trade(out, trade);
+        }
+        self.shown = self.trades.len();
+        put_orders(out, exchange);
+    }
+}
+
+fn put_figures(out: &mut Vec<u8>, broker: &Broker, turnover: f64) {
+    put(out, " cash ");
+    put_float(out, broker.get_cash_balance());
+    put(out, " state ");
+    put(out, state_word(broker));
+    put(out, " total ");
+    put_float(out, broker.get_total_value());
+    put(out, " liquidation ");
+    put_float(out, broker.get_liquidation_value());
+    put(out, " turnover ");
+    put_float(out, turnover);
+}
+
+fn put_map(out: &mut Vec<u8>, title: &str, map: PortfolioHoldings) {
+    put(out, title);
+    let mut rows: Vec<(String, f64)> = map.into_iter().collect();
+    rows.sort_unstable_by_key(|(name, _)| number(name));
+    for (name, value) in rows {
+        out.push(b' ');
+        put_symbol(out, &name);
+        out.push(b':');
+        put_float(out, value);
+    }
+}
+
+fn put_latest(out: &mut Vec<u8>, broker: &Broker) {
+    put(out, "\n latest");
+    let mut quotes = broker.get_quotes().unwrap_or_default();
+    quotes.sort_unstable_by_key(|quote| number(&quote.symbol));
+    for quote in &quotes {
+        out.push(b' ');
+        put_quote(out, quote);
+    }
+}
+
+fn put_orders(out: &mut Vec<u8>, exchange: &UistV1) {
+    put(out, "\n waiting");
+    for order in waiting(exchange) {
+        out.push(b' ');
+        put_order(out, order);
+    }
+    put(out, "\n resting");
+    for order in resting(exchange) {
+        out.push(b' ');
+        put_whole(out, order.order_id.expect("a booked order has its number"));
+        out.push(b':');
+        put_order(out, order);
+    }
+    out.push(b'\n');
+}

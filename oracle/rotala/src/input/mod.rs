@@ -1,0 +1,4 @@
+//! Holds the published quote types at their own path, `rotala::input::penelope`.
+
+#[path = "../../../published/rotala/src/input/penelope.rs"]
+pub mod penelope;

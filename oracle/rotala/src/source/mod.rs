@@ -1,0 +1,3 @@
+//! Holds the stand-in for `rotala::source::binance`.
+
+pub mod binance;

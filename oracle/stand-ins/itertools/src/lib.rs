@@ -1,0 +1,9 @@
+//! Stands in for itertools, of which the published broker's log uses collect_vec.
+
+pub trait Itertools: Iterator + Sized {
+    fn collect_vec(self) -> Vec<Self::Item> {
+        self.collect()
+    }
+}
+
+impl<I: Iterator> Itertools for I {}
