@@ -1,17 +1,19 @@
--- The loop that books the waiting orders of one side. Assumes nothing.
+-- The loop that books the waiting orders, sells first. Assumes nothing.
 use Prim.Native.Nat.{ℕ, suc, _+_, _-_, _≤_, _<_}
 use mathlib.Core.Path.{_≡_, refl, ap, sym, _∙_}
 use mathlib.Core.Bool.{Bool, true, false, cond, Bool·beq}
 use mathlib.Core.List.{List, [], _∷_, _++_, append-assoc, append-nil}
 use native.Mathlib.Omega.{arith}
 use native.Mathlib.Numerals.{add-one}
+use lib.Dec.{ltb}
 use lib.ListN.{length, take, drop, set, getD, length-append, length-take, length-set, length-map}
 use lib.Seq.{drop-cons, take-suc-set, drop-set-lt}
+use borrow.Author.Tests.{ltb-true, ltb-false, le-ltb}
 use Rattle.lists.specs.Lists.{over}
 use Rattle.lists.proofs.Over.{take-over, over-take, over-over}
 use Rattle.market.specs.Orders.{isSell}
 use Rattle.market.specs.declared.order.Order.{Order}
-use Rattle.exchange.specs.Tick.{ordersIn, ofSide, next, numberFrom, counterAfter, bookSideOf}
+use Rattle.exchange.specs.Tick.{ordersIn, ofSide, sellsFirst, next, numberFrom, counterAfter, bookSideOf, bookWaitingOf, waitingPlace}
 use Rattle.exchange.specs.declared.state.Booked.{Booked}
 use Rattle.exchange.specs.declared.tick.Booking.{Booking}
 use Rattle.exchange.proofs.Executing.{noBooked}
@@ -75,16 +77,6 @@ book-one b o l h =
     let q : b .at + suc (length l) ≡ b .at + 1 + length l = omega arith in
     cc
 
--- two bookings one after the other are one
-pub booked-twice : (b : Booking) (l m : List Order) → b .at + length l ≤ length (b .book) → bookSideOf (bookSideOf b l) m ≡ bookSideOf b (l ++ m)
-booked-twice b [] m h = ap (λ (x : Booking). bookSideOf x m) (book-none b)
-booked-twice b (o ∷ l) m h =
-    let x : Booked = record { number = b .number; order = o } in
-    let low : b .at < length (b .book) = omega arith in
-    ap (λ (y : Booking). bookSideOf y m) (book-one b o l low)
-    ∙ booked-twice (bookedOne b o) l m (omega (arith, length-set (b .book) (b .at) x))
-    ∙ sym (book-one b o (l ++ m) low)
-
 -- orders booked behind those that a list has put in the first places
 pub booked-behind : (k book : List Booked) (n : ℕ) (l : List Order) →
     bookSideOf (record { book = over k book; at = length k; number = n }) l
@@ -96,15 +88,7 @@ booked-behind k book n l =
     let q : length k + length l ≡ length (k ++ numberFrom n l) = omega (arith, length-append k (numberFrom n l), length-numbers n l) in
     cc
 
--- ---- the loop: the orders from place i on, booked behind those of b, make the whole
-
-pub record Inv (old : List Booked) (until : ℕ) (sells : Bool) (whole b : Booking) (i : ℕ) : Type 0 where
-  pub within : i ≤ until
-  pub small : until ≤ 1024
-  pub long : length old ≡ 1024
-  pub wide : length (b .book) ≡ 1024
-  pub room : b .at + length (ofSide sells (ordersIn old i until)) ≤ 1024
-  pub rest : bookSideOf b (ofSide sells (ordersIn old i until)) ≡ whole
+-- ---- the loop: a turn looks at one waiting order, a first time for the sells and a second for the buys
 
 -- the first order of those that are left
 orders-first : (old : List Booked) (i until : ℕ) → i < until → i < length old → ordersIn old i until ≡ getD old i noBooked .order ∷ ordersIn old (i + 1) until
@@ -112,23 +96,144 @@ orders-first old i until h k =
     let e : until - i ≡ suc (until - (i + 1)) = omega arith in
     rw (e, drop-cons old i noBooked k, add-one)
 
-module _ (old : List Booked) (until : ℕ) (sells : Bool) (whole b : Booking) (i : ℕ) (v : Inv old until sells whole b i) (h : i < until) where
+-- the orders of one side among the first o and the later ones
+side-first : (sells : Bool) (o : Order) (l : List Order) (t : Bool) → Bool·beq (isSell (o .kind)) sells ≡ t → ofSide sells (o ∷ l) ≡ cond t (o ∷ ofSide sells l) (ofSide sells l)
+side-first sells o l t e = ap (λ (x : Bool). cond x (o ∷ ofSide sells l) (ofSide sells l)) e
+
+none-from : (old : List Booked) (n : ℕ) → ordersIn old n n ≡ []
+none-from old n =
+    let e : n - n ≡ 0 = omega arith in
+    rw e
+
+cond-append : (t : Bool) (o : Order) (l m : List Order) → cond t (o ∷ l) l ++ m ≡ cond t (o ∷ (l ++ m)) (l ++ m)
+cond-append true o l m = refl
+cond-append false o l m = refl
+
+module _ (old : List Booked) (from n : ℕ) where
+  -- the orders that the turns from k on book
+  abbrev pub left : ℕ → List Order
+  left k =
+      cond (ltb k n)
+      (ofSide true (ordersIn old (from + k) (from + n)) ++ ofSide false (ordersIn old from (from + n)))
+      (ofSide false (ordersIn old (from + (k - n)) (from + n)))
+
+  sells-left : (k : ℕ) → k ≤ n → left k ≡ ofSide true (ordersIn old (from + k) (from + n)) ++ ofSide false (ordersIn old from (from + n))
+  sells-left k h = sells-by k h (ltb k n) refl
+    where
+      sells-by : (k : ℕ) → k ≤ n → (b : Bool) → ltb k n ≡ b →
+          cond b (ofSide true (ordersIn old (from + k) (from + n)) ++ ofSide false (ordersIn old from (from + n))) (ofSide false (ordersIn old (from + (k - n)) (from + n)))
+          ≡ ofSide true (ordersIn old (from + k) (from + n)) ++ ofSide false (ordersIn old from (from + n))
+      sells-by k h true e = refl
+      sells-by k h false e =
+          let same : k ≡ n = omega (arith, ltb-false k n e) in
+          let zero-past : from + (k - n) ≡ from = omega arith in
+          let all : from + k ≡ from + n = omega arith in
+          rw (zero-past, all, none-from)
+
+  buys-left : (k : ℕ) → n ≤ k → left k ≡ ofSide false (ordersIn old (from + (k - n)) (from + n))
+  buys-left k h = ap (λ (b : Bool). cond b (ofSide true (ordersIn old (from + k) (from + n)) ++ ofSide false (ordersIn old from (from + n))) (ofSide false (ordersIn old (from + (k - n)) (from + n)))) (le-ltb k n h)
+
+  -- at first the sells and then the buys are left, at last none
+  pub all-left : left 0 ≡ sellsFirst (ordersIn old from (from + n))
+  all-left =
+      let e : from + 0 ≡ from = omega arith in
+      sells-left 0 (omega arith) ∙ ap (λ (m : ℕ). ofSide true (ordersIn old m (from + n)) ++ ofSide false (ordersIn old from (from + n))) e
+
+  pub none-left : (k : ℕ) → n + n ≤ k → k ≤ n + n → left k ≡ []
+  none-left k h u =
+      let e : from + (k - n) ≡ from + n = omega arith in
+      buys-left k (omega arith) ∙ rw (e, none-from)
+
+  -- a turn looks at a place of the book
+  pub seen-within : (k : ℕ) → from + n ≤ 1024 → k < n + n → waitingPlace from n k < 1024
+  seen-within k small h = within-by (ltb k n) refl
+    where
+      within-by : (b : Bool) → ltb k n ≡ b → cond b (from + k) (from + (k - n)) < 1024
+      within-by true e = omega (arith, ltb-true k n e)
+      within-by false e = omega (arith, ltb-false k n e)
+
+  -- a turn's order
+  abbrev pub seen : ℕ → Order
+  seen k = getD old (waitingPlace from n k) noBooked .order
+
+  seen-by : (k : ℕ) (m : ℕ) → waitingPlace from n k ≡ m → seen k ≡ getD old m noBooked .order
+  seen-by k m e = ap (λ (i : ℕ). getD old i noBooked .order) e
+
+  pub left-first : (k : ℕ) (t : Bool) → length old ≡ 1024 → from + n ≤ 1024 → k < n + n → Bool·beq (isSell (seen k .kind)) (ltb k n) ≡ t →
+      left k ≡ cond t (seen k ∷ left (k + 1)) (left (k + 1))
+  left-first k t long small h e = first-by k t long small h (ltb k n) refl e
+    where
+      first-by : (k : ℕ) (t : Bool) → length old ≡ 1024 → from + n ≤ 1024 → k < n + n → (b : Bool) → ltb k n ≡ b → Bool·beq (isSell (seen k .kind)) (ltb k n) ≡ t →
+          left k ≡ cond t (seen k ∷ left (k + 1)) (left (k + 1))
+      first-by k t long small h true b e =
+          let low : k < n = ltb-true k n b in
+          let place : waitingPlace from n k ≡ from + k = ap (λ (x : Bool). cond x (from + k) (from + (k - n))) b in
+          let buys = ofSide false (ordersIn old from (from + n)) in
+          let l = ordersIn old (from + k + 1) (from + n) in
+          let side : Bool·beq (isSell (seen k .kind)) true ≡ t = ap (λ (x : Bool). Bool·beq (isSell (seen k .kind)) x) (sym b) ∙ e in
+          let step : ordersIn old (from + k) (from + n) ≡ seen k ∷ l
+          = orders-first old (from + k) (from + n) (omega arith) (omega arith) ∙ ap (λ (o : Order). o ∷ l) (sym (seen-by k (from + k) place)) in
+          let shift : from + k + 1 ≡ from + (k + 1) = omega arith in
+          let next-left : left (k + 1) ≡ ofSide true l ++ buys
+          = sells-left (k + 1) (omega arith) ∙ ap (λ (m : ℕ). ofSide true (ordersIn old m (from + n)) ++ buys) (sym shift) in
+          sells-left k (omega arith)
+          ∙ ap (λ (z : List Order). ofSide true z ++ buys) step
+          ∙ ap (λ (z : List Order). z ++ buys) (side-first true (seen k) l t side)
+          ∙ cond-append t (seen k) (ofSide true l) buys
+          ∙ ap (λ (z : List Order). cond t (seen k ∷ z) z) (sym next-left)
+      first-by k t long small h false b e =
+          let high : n ≤ k = ltb-false k n b in
+          let place : waitingPlace from n k ≡ from + (k - n) = ap (λ (x : Bool). cond x (from + k) (from + (k - n))) b in
+          let l = ordersIn old (from + (k - n) + 1) (from + n) in
+          let side : Bool·beq (isSell (seen k .kind)) false ≡ t = ap (λ (x : Bool). Bool·beq (isSell (seen k .kind)) x) (sym b) ∙ e in
+          let step : ordersIn old (from + (k - n)) (from + n) ≡ seen k ∷ l
+          = orders-first old (from + (k - n)) (from + n) (omega arith) (omega arith) ∙ ap (λ (o : Order). o ∷ l) (sym (seen-by k (from + (k - n)) place)) in
+          let shift : from + (k - n) + 1 ≡ from + (k + 1 - n) = omega arith in
+          let next-left : left (k + 1) ≡ ofSide false l = buys-left (k + 1) (omega arith) ∙ ap (λ (m : ℕ). ofSide false (ordersIn old m (from + n))) (sym shift) in
+          buys-left k high
+          ∙ ap (ofSide false) step
+          ∙ side-first false (seen k) l t side
+          ∙ ap (λ (z : List Order). cond t (seen k ∷ z) z) (sym next-left)
+
+-- the orders of the turns from k on, booked behind those of b, make the whole
+pub record Inv (old : List Booked) (from n : ℕ) (whole b : Booking) (k : ℕ) : Type 0 where
+  pub within : k ≤ n + n
+  pub small : from + n ≤ 1024
+  pub long : length old ≡ 1024
+  pub wide : length (b .book) ≡ 1024
+  pub room : b .at + length (left old from n k) ≤ 1024
+  pub rest : bookSideOf b (left old from n k) ≡ whole
+
+pub waiting-start : (old : List Booked) (from n : ℕ) (b : Booking) → length old ≡ 1024 → length (b .book) ≡ 1024 → from + n ≤ 1024 → b .at ≤ from →
+    Inv old from n (bookWaitingOf old from n b) b 0
+unfolding bookWaitingOf
+waiting-start old from n b long wide small h =
+    let l = ordersIn old from (from + n) in
+    let few : length (sellsFirst l) ≤ n = omega (arith, sides l, length-orders old from (from + n), length-append (ofSide true l) (ofSide false l)) in
+    record {
+      within = omega arith;
+      small = small;
+      long = long;
+      wide = wide;
+      room = omega (arith, few, ap length (all-left old from n));
+      rest = ap (bookSideOf b) (all-left old from n);
+    }
+
+module _ (old : List Booked) (from n : ℕ) (whole b : Booking) (k : ℕ) (v : Inv old from n whole b k) (h : k < n + n) where
   abbrev here : Order
-  here = getD old i noBooked .order
+  here = seen old from n k
 
   abbrev later : List Order
-  later = ofSide sells (ordersIn old (i + 1) until)
+  later = left old from n (k + 1)
 
-  side-by : (t : Bool) → Bool·beq (isSell (here .kind)) sells ≡ t → ofSide sells (ordersIn old i until) ≡ cond t (here ∷ later) later
-  side-by t e =
-      ap (ofSide sells) (orders-first old i until h (omega (arith, v .long, v .small)))
-      ∙ ap (λ (x : Bool). cond x (here ∷ later) later) e
+  side-by : (t : Bool) → Bool·beq (isSell (here .kind)) (ltb k n) ≡ t → left old from n k ≡ cond t (here ∷ later) later
+  side-by t e = left-first old from n k t (v .long) (v .small) h e
 
   -- there is a place for an order of the side
-  pub place-left : Bool·beq (isSell (here .kind)) sells ≡ true → b .at < 1024
+  pub place-left : Bool·beq (isSell (here .kind)) (ltb k n) ≡ true → b .at < 1024
   place-left t = omega (arith, ap length (side-by true t), v .room)
 
-  pub books-one : (b′ : Booking) → Bool·beq (isSell (here .kind)) sells ≡ true → b′ ≡ bookedOne b here → Inv old until sells whole b′ (i + 1)
+  pub books-one : (b′ : Booking) → Bool·beq (isSell (here .kind)) (ltb k n) ≡ true → b′ ≡ bookedOne b here → Inv old from n whole b′ (k + 1)
   books-one b′ t e =
       let x : Booked = record { number = b .number; order = here } in
       let low : b .at < length (b .book) = omega (arith, place-left t, v .wide) in
@@ -142,7 +247,7 @@ module _ (old : List Booked) (until : ℕ) (sells : Bool) (whole b : Booking) (i
         rest = ap (λ (y : Booking). bookSideOf y later) e ∙ sym (book-one b here later low) ∙ ap (bookSideOf b) (sym (side-by true t)) ∙ v .rest;
       }
 
-  pub passes-one : (b′ : Booking) → Bool·beq (isSell (here .kind)) sells ≡ false → b′ ≡ b → Inv old until sells whole b′ (i + 1)
+  pub passes-one : (b′ : Booking) → Bool·beq (isSell (here .kind)) (ltb k n) ≡ false → b′ ≡ b → Inv old from n whole b′ (k + 1)
   passes-one b′ t e =
       let a : b′ .at ≡ b .at = ap (λ (y : Booking). y .at) e in
       record {
@@ -155,8 +260,5 @@ module _ (old : List Booked) (until : ℕ) (sells : Bool) (whole b : Booking) (i
       }
 
 -- at the loop's end nothing is left
-pub side-booked : (old : List Booked) (until : ℕ) (sells : Bool) (whole b : Booking) (i : ℕ) → Inv old until sells whole b i → until ≤ i → b ≡ whole
-side-booked old until sells whole b i v h =
-    let e : until - i ≡ 0 = omega arith in
-    let none : ofSide sells (ordersIn old i until) ≡ [] = rw e in
-    sym (book-none b) ∙ ap (bookSideOf b) (sym none) ∙ v .rest
+pub waiting-booked : (old : List Booked) (from n : ℕ) (whole b : Booking) (k : ℕ) → Inv old from n whole b k → n + n ≤ k → b ≡ whole
+waiting-booked old from n whole b k v h = sym (book-none b) ∙ ap (bookSideOf b) (sym (none-left old from n k h (v .within))) ∙ v .rest

@@ -1,11 +1,11 @@
 -- What counts that hold together obey. Assumes nothing.
-use Prim.Native.Nat.{_+_, _-_, _≤_, _<_}
+use Prim.Native.Nat.{ℕ, zero, suc, _+_, _-_, _≤_, _<_}
 use mathlib.Core.Path.{_≡_, refl, sym}
 use mathlib.Core.Bool.{Bool, true, false, _||_}
 use native.Mathlib.Omega.{arith}
 use borrow.Author.Tests.{ltb-true, ltb-false, le-ltb, eqb-false}
 use lib.Dec.{ltb, eqb}
-use Rattle.market.specs.Numbers.{drawn}
+use Rattle.market.specs.Numbers.{drawn, unlessDrawn}
 use Rattle.market.specs.Orders.{orderTests}
 use Rattle.market.specs.declared.order.Order.{Order}
 use Rattle.market.proofs.Numbers.{order-numbered, append-none, none-drawn}
@@ -21,6 +21,16 @@ or-right : (a b : Bool) → a || b ≡ false → b ≡ false
 or-right false b h = h
 or-right true false h = refl
 or-right true true h = h
+
+-- ---- an answer by the number n
+
+pub unless-some : {A : Type 0} (n : ℕ) (x y : A) → (n ≡ 0 → ⊥) → y ≡ unlessDrawn n x y
+unless-some zero x y d = absurd (d refl)
+unless-some (suc n) x y d = refl
+
+pub unless-none : {A : Type 0} (n : ℕ) (x y : A) → n ≡ 0 → x ≡ unlessDrawn n x y
+unless-none zero x y z = refl
+unless-none (suc n) x y z = absurd (omega arith)
 
 -- ---- 16
 

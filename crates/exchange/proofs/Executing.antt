@@ -11,7 +11,7 @@ use lib.Ieee.{nan}
 use lib.ListN.{length, take, set, getD, length-append, length-take}
 use borrow.Author.Tests.{ltb-true}
 use Rattle.lists.specs.Lists.{over, keep, given, holds}
-use Rattle.lists.proofs.Over.{over-more}
+use Rattle.lists.proofs.Over.{over-read, over-more}
 use Rattle.lists.proofs.Keep.{keep-more, keep-less, gather-more}
 use Rattle.market.specs.Quotes.{noQuote, rowAt}
 use Rattle.market.specs.Trades.{rowIf, tradeOn, tradeIn}
@@ -77,6 +77,14 @@ pub record Inv (rows : ℕ → Option Quote) (resting : ℕ) (book : List Booked
   pub stayed : kept ≡ length (keep (stays rows) (take i book))
   pub traded : trades ≡ over (tradesOf rows (take i book)) noTrades
   pub counted : count ≡ length (tradesOf rows (take i book))
+
+module _ (rows : ℕ → Option Quote) (resting : ℕ) (book stay : List Booked) (trades : List Trade) (kept count i : ℕ)
+    (v : Inv rows resting book stay trades kept count i) where
+  -- the order that a turn reads stands where it stood
+  pub unmoved : getD stay i noBooked ≡ getD book i noBooked
+  unmoved =
+      ap (λ (l : List Booked). getD l i noBooked) (v .left)
+      ∙ over-read (keep (stays rows) (take i book)) book i noBooked (omega (arith, v .stayed, v .few))
 
 module _ (rows : ℕ → Option Quote) (resting : ℕ) (book stay : List Booked) (trades : List Trade) (kept count i : ℕ)
     (v : Inv rows resting book stay trades kept count i) (h : i < resting) where

@@ -3,7 +3,7 @@ use Prim.Native.Nat.{ℕ, _+_, _-_, _%_, _^_}
 use mathlib.Core.Bool.{Bool, true, false, cond}
 use mathlib.Core.List.{List, [], _∷_, _++_, map}
 use mathlib.Core.Option.{Option}
-use lib.Dec.{eqb}
+use lib.Dec.{eqb, ltb}
 use lib.ListN.{length, take, drop, replicate}
 use Rattle.lists.specs.Lists.{over, keep, gather, given, holds}
 use Rattle.market.specs.Numbers.{unlessDrawn}
@@ -79,8 +79,12 @@ bookSideOf b l =
       number = counterAfter (b .number) l;
     }
 
-unfoldable pub bookWaitingOf : List Booked → Counts → Booking → Booking
-bookWaitingOf old c b = bookSideOf b (sellsFirst (ordersIn old (c .resting) (c .resting + c .waits)))
+unfoldable pub bookWaitingOf : List Booked → ℕ → ℕ → Booking → Booking
+bookWaitingOf old from waits b = bookSideOf b (sellsFirst (ordersIn old from (from + waits)))
+
+-- where the waiting order stands that a turn looks at: a first time for the sells, a second for the buys
+abbrev pub waitingPlace : ℕ → ℕ → ℕ → ℕ
+waitingPlace from waits turn = cond (ltb turn waits) (from + turn) (from + (turn - waits))
 
 -- ---- the tick
 
@@ -88,20 +92,18 @@ bookWaitingOf old c b = bookSideOf b (sellsFirst (ordersIn old (c .resting) (c .
 abbrev pub tickedBook : UistV1 → (ℕ → Option Quote) → List Booked
 tickedBook e rows = keep (stays rows) (restingOf e) ++ numberFrom (e .counts .given) (sellsFirst (waitingOf e))
 
+-- the counts after a tick: all that is booked rests, and the trades are logged
+abbrev pub countsAfter : Counts → ℕ → ℕ → ℕ → Counts
+countsAfter c resting given count =
+    record { resting = resting; waits = 0; given = given; taken = c .taken; logged = c .logged + count; room = c .room }
+
 -- a tick first trades booked orders in book order, then books the waiting ones
 unfoldable pub ticked : UistV1 → (ℕ → Option Quote) → UistV1
 ticked e rows =
     let c = e .counts in
     record {
       book = over (tickedBook e rows) (e .book);
-      counts = record {
-        resting = length (tickedBook e rows);
-        waits = 0;
-        given = counterAfter (c .given) (sellsFirst (waitingOf e));
-        taken = c .taken;
-        logged = c .logged + length (tradesOf rows (restingOf e));
-        room = c .room;
-      };
+      counts = countsAfter c (length (tickedBook e rows)) (counterAfter (c .given) (sellsFirst (waitingOf e))) (length (tradesOf rows (restingOf e)));
     }
 
 -- a refusal: the state as it was, no trades, and the number

@@ -1,10 +1,11 @@
 // A tick: the resting orders that meet their rule trade, then the waiting ones are booked.
 ghost use mathlib.Core.Path.{_≡_};
-ghost use Prim.Native.Nat.{_+_, _≤_};
+ghost use Prim.Native.Nat.{_+_, _≤_, _<_};
 ghost use mathlib.Core.Bool.{false, cond};
 ghost use lib.Dec.{ltb};
-ghost use lib.ListN.{length};
-ghost use Rattle.exchange.specs.Tick.{noTrades, executeOf, ordersIn, ofSide, bookSideOf, bookWaitingOf, refusedWith, tickOf, tickForOf, answerOf};
+ghost use Rattle.market.specs.Numbers.{unlessDrawn};
+ghost use Rattle.exchange.specs.State.{brokenOf};
+ghost use Rattle.exchange.specs.Tick.{noTrades, executeOf, waitingPlace, bookWaitingOf, countsAfter, refusedWith, tickOf, tickForOf, answerOf};
 use crate::state::Booked;
 use crate::state::Counts;
 use crate::state::UistV1;
@@ -61,7 +62,8 @@ fn listed(symbol: u32, present: bool) -> bool
     if symbol < 256 { present } else { false }
 }
 
-// Trades the resting orders that meet their rule, in book order.
+// Trades the resting orders that meet their rule, in book order. What stays moves up in its own
+// array, never past the order that a turn reads, so that the book is copied once.
 fn execute_orders(book: [Booked; 1024], resting: usize, quotes: Table) -> Executed
     requires { ⌜ resting ≤ 1024 ⌝ }
     ensures { λ r. ⌜ r ≡ executeOf book resting quotes ⌝ }
@@ -72,7 +74,7 @@ fn execute_orders(book: [Booked; 1024], resting: usize, quotes: Table) -> Execut
     let mut count: usize = 0;
     let mut i: usize = 0;
     while i < resting {
-        let b = book[i];
+        let b = stay[i];
         let o = b.order;
         let symbol = o.symbol;
         let at = (symbol % 256) as usize;
@@ -99,18 +101,34 @@ fn execute_orders(book: [Booked; 1024], resting: usize, quotes: Table) -> Execut
     }
 }
 
-// Books the orders of one side from `from` to `until` of the old book behind those of `b`.
-fn book_side(old: [Booked; 1024], from: usize, until: usize, sells: bool, b: Booking) -> Booking
-    requires { ⌜ (from ≤ until) × (until ≤ 1024) × (b .at + length (ofSide sells (ordersIn old from until)) ≤ 1024) ⌝ }
-    ensures { λ r. ⌜ r ≡ bookSideOf b (ofSide sells (ordersIn old from until)) ⌝ }
+// The place of the waiting order that a turn looks at: each is looked at twice.
+fn waiting_place(from: usize, waits: usize, turn: usize) -> usize
+    requires { ⌜ (from + waits ≤ 1024) × (turn < waits + waits) ⌝ }
+    ensures { λ r. ⌜ r ≡ waitingPlace from waits turn ⌝ }
+{
+    if turn < waits {
+        from + turn
+    } else {
+        from + (turn - waits)
+    }
+}
+
+// Books the waiting orders behind those of `b`, sells first, then buys, each in order of taking: the
+// first `waits` turns book the sells, the others the buys.
+fn book_waiting(old: [Booked; 1024], from: usize, waits: usize, b: Booking) -> Booking
+    requires { ⌜ (from + waits ≤ 1024) × (b .at ≤ from) ⌝ }
+    ensures { λ r. ⌜ r ≡ bookWaitingOf old from waits b ⌝ }
 {
     let mut book = b.book;
     let mut at = b.at;
     let mut number = b.number;
-    let mut i: usize = from;
-    while i < until {
-        let w = old[i];
+    let turns = waits + waits;
+    let mut i: usize = 0;
+    while i < turns {
+        let place = waiting_place(from, waits, i);
+        let w = old[place];
         let o = w.order;
+        let sells = i < waits;
         if o.is_sell() == sells {
             book[at] = Booked {
                 number: number,
@@ -128,15 +146,37 @@ fn book_side(old: [Booked; 1024], from: usize, until: usize, sells: bool, b: Boo
     }
 }
 
-// Books the waiting orders, sells first, then buys, each in order of taking.
-fn book_waiting(old: [Booked; 1024], counts: Counts, x: Booking) -> Booking
-    requires { ⌜ (counts .resting + counts .waits ≤ 1024) × (x .at ≤ counts .resting) ⌝ }
-    ensures { λ r. ⌜ r ≡ bookWaitingOf old counts x ⌝ }
+// 16, then the number that the table's rows drew, or 0.
+fn tick_fault(c: Counts, fault: u32) -> u32
+    ensures { λ r. ⌜ r ≡ cond (brokenOf c) 16 fault ⌝ }
 {
-    let from = counts.resting;
-    let until = from + counts.waits;
-    let sold = book_side(old, from, until, true, x);
-    book_side(old, from, until, false, sold)
+    if c.broken() { 16 } else { fault }
+}
+
+// None of `n` where a number is drawn.
+fn count_unless(number: u32, n: usize) -> usize
+    ensures { λ r. ⌜ r ≡ unlessDrawn number n 0 ⌝ }
+{
+    if number != 0 { 0 } else { n }
+}
+
+// The counts after a tick that booked `resting` orders up to the number `given` and traded `count`;
+// as they were where a number is drawn.
+fn counts_after(number: u32, c: Counts, resting: usize, given: u64, count: usize) -> Counts
+    requires { ⌜ (number ≡ 0 → c .logged + count ≤ c .taken) ⌝ }
+    ensures { λ r. ⌜ r ≡ unlessDrawn number (countsAfter c resting given count) c ⌝ }
+{
+    if number != 0 {
+        return c;
+    }
+    Counts {
+        resting: resting,
+        waits: 0,
+        given: given,
+        taken: c.taken,
+        logged: c.logged + count as u64,
+        room: c.room,
+    }
 }
 
 // No trades, the state as it was.
@@ -154,23 +194,23 @@ fn refused(e: UistV1, number: u32) -> Ticked
 }
 
 impl UistV1 {
+    // One way through, refused or not: a tick that draws a number trades and books none. A return
+    // before the work would cost copies of the whole book.
     pub fn tick(self, quotes: Table) -> Ticked
         ensures { λ r. ⌜ r ≡ tickOf self quotes ⌝ }
     {
         let c = self.counts;
-        if c.broken() {
-            return refused(self, 16);
-        }
-        if quotes.fault != 0 {
-            return refused(self, quotes.fault);
-        }
+        let number = tick_fault(c, quotes.fault);
+        let resting = count_unless(number, c.resting);
+        let waits = count_unless(number, c.waits);
         let book = self.book;
-        let x = execute_orders(book, c.resting, quotes);
+        let x = execute_orders(book, resting, quotes);
         let stay = x.book;
         let trades = x.trades;
         let b = book_waiting(
             book,
-            c,
+            resting,
+            waits,
             Booking {
                 book: stay,
                 at: x.kept,
@@ -178,14 +218,7 @@ impl UistV1 {
             },
         );
         let booked = b.book;
-        let counts = Counts {
-            resting: b.at,
-            waits: 0,
-            given: b.number,
-            taken: c.taken,
-            logged: c.logged + x.count as u64,
-            room: c.room,
-        };
+        let counts = counts_after(number, c, b.at, b.number, x.count);
         Ticked {
             exchange: UistV1 {
                 book: booked,
@@ -193,8 +226,8 @@ impl UistV1 {
             },
             trades: trades,
             count: x.count,
-            first: c.logged as usize,
-            number: 0,
+            first: count_unless(number, c.logged as usize),
+            number: number,
         }
     }
 

@@ -1,59 +1,120 @@
--- `book_waiting` meets its contract: the sells and then the buys, booked one after the other, are booked as one list.
-use Prim.Native.Nat.{_+_, _≤_}
-use mathlib.Core.Path.{_≡_, ap, sym, _∙_}
-use mathlib.Core.Bool.{Bool, true, false, not}
-use mathlib.Core.List.{List}
+-- `book_waiting` meets its contract: the orders that are left, booked behind those that are, make the whole.
+use Prim.Native.Nat.{ℕ, _+_, _-_, _<_}
+use mathlib.Core.Path.{_≡_, refl, ap, sym, _∙_}
+use mathlib.Core.Bool.{Bool, Bool·beq}
+use mathlib.Core.Logic.{⊎-elim}
 use native.Mathlib.Omega.{arith}
-use lib.ListN.{length, length-map}
+use lib.Dec.{ltb}
+use lib.ListN.{getD, set, length-map}
 use borrow.Author.Needs.{needs}
-use Rattle.market.specs.declared.order.Order.{Order}
-use Rattle.exchange.specs.Tick.{ordersIn, ofSide, bookSideOf, bookWaitingOf}
-use Rattle.exchange.specs.declared.state.Booked.{Booked}
-use Rattle.exchange.specs.declared.state.Counts.{Counts}
-use Rattle.exchange.specs.declared.tick.Booking.{Booking}
-use Rattle.exchange.proofs.Booking.{sides, length-orders, booked-twice}
+use Rattle.market.specs.Orders.{isSell}
+use Rattle.exchange.specs.Tick.{bookWaitingOf}
+use Rattle.exchange.proofs.Executing.{noBooked}
+use Rattle.exchange.proofs.Booking.{Inv, same-booking, seen, seen-within, waiting-start, place-left, books-one, passes-one, waiting-booked}
 use Rattle.exchange.proofs.tick.book_waiting.Statement.{statement}
 use Rattle.exchange.proofs.tick.book_waiting.Tie as tie
 
-module _ (old : List Booked) (c : Counts) (x : Booking) (h : c .resting + c .waits ≤ 1024) (k : x .at ≤ c .resting) where
-  abbrev waiting : List Order
-  waiting = ordersIn old (c .resting) (c .resting + c .waits)
+abbrev Inv-loop : tie.InvT-loop
+Inv-loop from waits old book₀ at₀ number₀ turns i₀ book at number i =
+    Inv old from waits (bookWaitingOf old from waits (record { book = book₀; at = at₀; number = number₀ }))
+    (record { book = book; at = at; number = number }) i
 
-  -- no more orders of the two sides wait than the count says
-  few : (sells : Bool) → length (ofSide sells waiting) + length (ofSide (not sells) waiting) ≤ c .waits
-  few true = omega (arith, sides waiting, length-orders old (c .resting) (c .resting + c .waits))
-  few false = omega (arith, sides waiting, length-orders old (c .resting) (c .resting + c .waits))
+abbrev μ-loop : tie.MeasureT-loop
+μ-loop from waits old book₀ at₀ number₀ turns i₀ book at number i = waits + waits - i
 
-  -- what the first call asks, and the second, whichever side is first
-  first-fits : (sells : Bool) → (c .resting ≤ c .resting + c .waits) × (c .resting + c .waits ≤ 1024) × (x .at + length (ofSide sells waiting) ≤ 1024)
-  first-fits sells = (omega arith, h, omega (arith, few sells))
+add-turns : tie.Need-add-turns Inv-loop μ-loop
+add-turns c = omega arith
 
-  second-fits : (sells : Bool) (y : Booking) → y ≡ bookSideOf x (ofSide sells waiting) →
-      (c .resting ≤ c .resting + c .waits) × (c .resting + c .waits ≤ 1024) × (y .at + length (ofSide (not sells) waiting) ≤ 1024)
-  unfolding bookSideOf
-  second-fits sells y e = (omega arith, h, omega (arith, few sells, ap (λ (b : Booking). b .at) e))
+loop-holds : tie.Need-loop-holds Inv-loop μ-loop
+loop-holds c =
+    waiting-start _ _ _ _ (c .before .good .0 .1 .0 .1) (sym (length-map (c .before .args .b .book) _) ∙ c .before .good .1 .1 .1 .0 .1 .1 .0 .1 .0 .1)
+    (c .before .pre .0) (c .before .pre .1)
 
-  both : (y z : Booking) → length (x .book) ≡ 1024 → y ≡ bookSideOf x (ofSide true waiting) →
-      z ≡ bookSideOf y (ofSide false waiting) → z ≡ bookWaitingOf old c x
-  unfolding bookWaitingOf
-  both y z n p q = q ∙ ap (λ (b : Booking). bookSideOf b (ofSide false waiting)) p ∙ booked-twice x (ofSide true waiting) (ofSide false waiting) (omega (arith, few true))
+waiting-place-requires : tie.Need-waiting-place-requires Inv-loop μ-loop
+waiting-place-requires c κs = (c .before .loop .inv .small, c .loop-test .taken)
 
-add-until : tie.Need-add-until
-add-until c = search needs
+-- the place that a turn reads
+place-fits : (c : tie.After-waiting-place Inv-loop μ-loop) → c .waiting-place .result < 1024
+place-fits c =
+    let s = c .before .before .before .before .args in
+    omega (arith, c .waiting-place .ensures, seen-within (s .t1) (s .from) (s .waits) (c .before .before .loop .i) (c .before .before .loop .inv .small) (c .before .loop-test .taken))
 
-book-side-requires : tie.Need-book-side-requires
-book-side-requires c κs = first-fits (c .before .args .old) (c .before .args .counts) (c .before .args .x) (c .before .pre .0) (c .before .pre .1) _
+mul-w : tie.Need-mul-w Inv-loop μ-loop
+mul-w c = omega (arith, place-fits c)
 
-book-side-requires-2 : tie.Need-book-side-requires-2
-book-side-requires-2 c κs =
-    let s = c .before .before in
-    second-fits (s .args .old) (s .args .counts) (s .args .x) (s .pre .0) (s .pre .1) _ (c .book-side .result) (c .book-side .ensures)
+array-copy-out-w : tie.Need-array-copy-out-w Inv-loop μ-loop
+array-copy-out-w c = place-fits c
 
-returns : tie.Need-returns
-returns c =
-    let s = c .before .before .before in
-    let wide : length (s .args .x .book) ≡ 1024 = sym (length-map (s .args .x .book) _) ∙ s .good .1 .1 .0 .1 .1 .0 .1 .0 .1 in
-    both (s .args .old) (s .args .counts) (s .args .x) (s .pre .0) (s .pre .1) _ _ wide (c .before .book-side .ensures) (c .book-side2 .ensures)
+is-sell-requires : tie.Need-is-sell-requires Inv-loop μ-loop
+is-sell-requires c κs = search needs
+
+-- is the order that a turn reads of the turn's side?
+abbrev ofTheSide : (c : tie.After-is-sell Inv-loop μ-loop) → Bool
+ofTheSide c =
+    let s = c .before .before .before .before .before .before .before .args in
+    let i = c .before .before .before .before .before .loop .i in
+    Bool·beq (isSell (seen (s .t1) (s .from) (s .waits) i .kind)) (ltb i (s .waits))
+
+side-at : (c : tie.After-is-sell Inv-loop μ-loop) → {b : Bool} →
+    Bool·beq (c .is-sell .result) (ltb (c .before .before .before .before .before .loop .i) (c .before .before .before .before .before .before .before .args .waits)) ≡ b → ofTheSide c ≡ b
+side-at c e =
+    let s = c .before .before .before .before .before .before .before .args in
+    let i = c .before .before .before .before .before .loop .i in
+    let read : c .is-sell .result ≡ isSell (seen (s .t1) (s .from) (s .waits) i .kind)
+    = c .is-sell .ensures ∙ ap (λ (m : ℕ). isSell (getD (s .t1) m noBooked .order .kind)) (c .before .before .before .waiting-place .ensures) in
+    ap (λ (x : Bool). Bool·beq x (ltb i (s .waits))) (sym read) ∙ e
+
+at-fits : (c : tie.Then1 Inv-loop μ-loop) → c .before .before .before .before .before .before .loop .at < 1024
+at-fits c =
+    place-left _ _ _ _ _ _ (c .before .before .before .before .before .before .loop .inv) (c .before .before .before .before .before .loop-test .taken) (side-at (c .before) (c .if1 .taken))
+
+mul-book : tie.Need-mul-book Inv-loop μ-loop
+mul-book c = omega (arith, at-fits c)
+
+array-set-from-book : tie.Need-array-set-from-book Inv-loop μ-loop
+array-set-from-book c = at-fits c
+
+add-at : tie.Need-add-at Inv-loop μ-loop
+add-at c = omega (arith, at-fits c)
+
+wrapping-add-u64-requires : tie.Need-wrapping-add-u64-requires Inv-loop μ-loop
+wrapping-add-u64-requires c κs = search needs
+
+add-i : tie.Need-add-i Inv-loop μ-loop
+add-i c = omega arith
+
+loop-less : tie.Need-loop-less Inv-loop μ-loop
+loop-less c = omega arith
+
+loop-again : tie.Need-loop-again Inv-loop μ-loop
+loop-again c =
+    let a = c .before .before .before .before .before .before .loop in
+    let h = c .before .before .before .before .before .loop-test .taken in
+    let s = c .before .before .before .before .before .before .before .before .args in
+    let turned = ap (λ (m : ℕ). set (a .book) (a .at) (record { number = a .number; order = getD (s .t1) m noBooked .order })) (c .before .before .before .before .waiting-place .ensures) in
+    ⊎-elim (λ w. books-one _ _ _ _ _ _ (a .inv) h _ (side-at (c .before) (w .0 .taken)) (same-booking _ _ (w .2 ∙ turned) (w .3) (w .4 ∙ w .1 .ensures)))
+    (λ w. passes-one _ _ _ _ _ _ (a .inv) h _ (side-at (c .before) (w .0 .left)) (same-booking _ _ (w .1) (w .2) (w .3))) (c .if1 .came)
+
+returns : tie.Need-returns Inv-loop μ-loop
+returns c = waiting-booked _ _ _ _ _ _ (c .before .loop .inv) (c .loop-test .left)
 
 pub book-waiting-spec : {M : Type 1} → statement M
-book-waiting-spec = tie.close (tie.spec add-until book-side-requires book-side-requires-2 returns)
+book-waiting-spec =
+    tie.close
+    (tie.spec
+    Inv-loop
+    μ-loop
+    add-turns
+    loop-holds
+    waiting-place-requires
+    mul-w
+    array-copy-out-w
+    is-sell-requires
+    mul-book
+    array-set-from-book
+    add-at
+    wrapping-add-u64-requires
+    add-i
+    loop-less
+    loop-again
+    returns)

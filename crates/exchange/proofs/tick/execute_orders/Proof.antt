@@ -1,22 +1,24 @@
--- `execute_orders` meets its contract: after i turns what stays and what traded are those of the first i resting orders.
+-- `execute_orders` meets its contract: after i turns what stays and what traded are those of the first i resting orders,
+-- and the orders from place i on stand where they stood.
 use Prim.Native.Nat.{_-_}
-use mathlib.Core.Path.{refl, ap, _∙_}
+use mathlib.Core.Path.{refl, ap, sym, _∙_}
 use mathlib.Core.Logic.{⊎-elim}
 use native.Mathlib.Omega.{arith}
-use lib.ListN.{getD, length-replicate}
+use lib.ListN.{getD, set, length-replicate}
 use borrow.Author.Needs.{needs}
 use Rattle.market.specs.Quotes.{rowAt}
 use Rattle.market.specs.Trades.{blankTrade, tradeIn}
-use Rattle.exchange.specs.Tick.{noTrades}
-use Rattle.exchange.proofs.Executing.{noBooked, Inv, fill-at, trades-one, keeps-one, executed}
+use Rattle.exchange.specs.Tick.{noTrades, tradeAt}
+use Rattle.exchange.specs.declared.state.Booked.{Booked}
+use Rattle.exchange.proofs.Executing.{noBooked, Inv, fill-at, unmoved, trades-one, keeps-one, executed}
 use Rattle.exchange.proofs.tick.execute_orders.Statement.{statement}
 use Rattle.exchange.proofs.tick.execute_orders.Tie as tie
 
 abbrev Inv-loop : tie.InvT-loop
-Inv-loop resting book quotes stay₀ trades₀ kept₀ count₀ i₀ stay trades kept count i = Inv (rowAt quotes) resting book stay trades kept count i
+Inv-loop resting quotes stay₀ trades₀ kept₀ count₀ i₀ stay trades kept count i = Inv (rowAt quotes) resting stay₀ stay trades kept count i
 
 abbrev μ-loop : tie.MeasureT-loop
-μ-loop resting book quotes stay₀ trades₀ kept₀ count₀ i₀ stay trades kept count i = resting - i
+μ-loop resting quotes stay₀ trades₀ kept₀ count₀ i₀ stay trades kept count i = resting - i
 
 no-trades-requires : tie.Need-no-trades-requires Inv-loop μ-loop
 no-trades-requires c κs = search needs
@@ -95,9 +97,11 @@ loop-again c =
     let a = c .before .before .before .before .before .before .before .before .loop in
     let h = c .before .before .before .before .before .before .before .loop-test .taken in
     let args = c .before .before .before .before .before .before .before .before .before .before .args in
-    let on = fill-at (args .t3) (getD (args .t1) (a .i) noBooked .order) _ (c .before .execute .result) (c .before .before .listed .ensures) (c .before .execute .ensures) in
+    let read = unmoved _ _ _ _ _ _ _ _ (a .inv) in
+    let on = ap (λ (b : Booked). tradeAt (rowAt (args .t3)) (b .order)) (sym read)
+    ∙ fill-at (args .t3) (getD (a .stay) (a .i) noBooked .order) _ (c .before .execute .result) (c .before .before .listed .ensures) (c .before .execute .ensures) in
     ⊎-elim (λ w. trades-one _ _ _ _ _ _ _ _ (a .inv) h _ _ _ _ _ (on ∙ ap tradeIn (w .1 .given .1)) (w .3) (w .4) (w .5) (w .6))
-    (λ w. keeps-one _ _ _ _ _ _ _ _ (a .inv) h _ _ _ _ (on ∙ ap tradeIn (w .1 .given .1)) (w .2) (w .3) (w .4) (w .5)) (c .match .came)
+    (λ w. keeps-one _ _ _ _ _ _ _ _ (a .inv) h _ _ _ _ (on ∙ ap tradeIn (w .1 .given .1)) (w .2 ∙ ap (set (a .stay) (a .kept)) read) (w .3) (w .4) (w .5)) (c .match .came)
 
 returns : tie.Need-returns Inv-loop μ-loop
 returns c = executed _ _ _ _ _ _ _ _ (c .before .loop .inv) (c .loop-test .left)

@@ -1,7 +1,8 @@
--- `tick` meets its contract: what its calls give, put together, is the tick's definition.
+-- `tick` meets its contract: what its calls give, put together, is the tick's definition, also where a number is drawn and
+-- nothing trades or is booked.
 use Prim.Native.Nat.{ℕ, zero, suc, _+_, _-_, _≤_}
 use mathlib.Core.Path.{_≡_, refl, ap, sym, _∙_}
-use mathlib.Core.Bool.{true, false}
+use mathlib.Core.Bool.{Bool, true, false, cond}
 use mathlib.Core.List.{List, map}
 use native.Mathlib.Omega.{arith}
 use lib.ListN.{take, drop}
@@ -11,46 +12,43 @@ use Rattle.market.specs.Numbers.{unlessDrawn}
 use Rattle.market.specs.Quotes.{rowAt}
 use Rattle.market.specs.declared.table.Table.{Table}
 use Rattle.exchange.specs.State.{brokenOf, restingOf, waitingOf}
-use Rattle.exchange.specs.Tick.{stays, executeOf, ordersIn, sellsFirst, bookSideOf, bookWaitingOf, ticked, refusedWith, tickOf}
+use Rattle.exchange.specs.Tick.{stays, executeOf, ordersIn, sellsFirst, bookSideOf, bookWaitingOf, countsAfter, ticked, refusedWith, tickDone, tickNumber, tickOf}
 use Rattle.exchange.specs.declared.state.Booked.{Booked}
+use Rattle.exchange.specs.declared.state.Counts.{Counts}
 use Rattle.exchange.specs.declared.state.UistV1.{UistV1}
 use Rattle.exchange.specs.declared.tick.Executed.{Executed}
 use Rattle.exchange.specs.declared.tick.Booking.{Booking}
 use Rattle.exchange.specs.declared.tick.Ticked.{Ticked}
 use Rattle.exchange.proofs.Counting.{Sound, sound-facts}
 use Rattle.exchange.proofs.Executing.{few-executed}
-use Rattle.exchange.proofs.Booking.{booked-behind}
+use Rattle.exchange.proofs.Booking.{book-none, booked-behind}
 use Rattle.exchange.proofs.state.UistV1.tick.Statement.{statement}
 use Rattle.exchange.proofs.state.UistV1.tick.Tie as tie
 
--- ---- refusals
+-- ---- the counts
 
-refused-broken : (e : UistV1) (t : Table) → brokenOf (e .counts) ≡ true → refusedWith e 16 ≡ tickOf e t
-unfolding tickOf
-refused-broken e t h = rw h
+-- a tick that draws no number has counts that hold together
+sound-by : (c : Counts) (fault : ℕ) (b : Bool) → brokenOf c ≡ b → 0 ≡ cond b 16 fault → Sound c
+sound-by c fault true e h = absurd (omega arith)
+sound-by c fault false e h = sound-facts c e
 
-fault-by : (n : ℕ) (a b : Ticked) → (n ≡ 0 → ⊥) → b ≡ unlessDrawn n a b
-fault-by zero a b d = absurd (d refl)
-fault-by (suc n) a b d = refl
+sound-at : (c : Counts) (fault : ℕ) → 0 ≡ cond (brokenOf c) 16 fault → Sound c
+sound-at c fault h = sound-by c fault (brokenOf c) refl h
 
-refused-fault : (e : UistV1) (t : Table) → brokenOf (e .counts) ≡ false → (t .fault ≡ 0 → ⊥) → refusedWith e (t .fault) ≡ tickOf e t
-unfolding tickOf
-refused-fault e t h d = rw h (fault-by (t .fault) _ _ d)
+-- what it goes over fits the book
+fits : (c : Counts) (fault n : ℕ) → n ≡ cond (brokenOf c) 16 fault → unlessDrawn n (c .resting) 0 + unlessDrawn n (c .waits) 0 ≤ 1024
+fits c fault zero h = sound-at c fault h .together
+fits c fault (suc n) h = omega arith
+
+-- and the log
+logs-fit : (c : Counts) (fault n k : ℕ) → n ≡ cond (brokenOf c) 16 fault → k ≤ unlessDrawn n (c .resting) 0 → n ≡ 0 → c .logged + k ≤ c .taken
+logs-fit c fault zero k h l z = omega (arith, sound-at c fault h .logs)
+logs-fit c fault (suc n) k h l z = absurd (omega arith)
 
 -- ---- what the calls give
 
-abbrev answer : UistV1 → Executed → Booking → Ticked
-answer e x b =
-    record {
-      exchange = record {
-        book = b .book;
-        counts = record { resting = b .at; waits = 0; given = b .number; taken = e .counts .taken; logged = e .counts .logged + x .count; room = e .counts .room };
-      };
-      trades = x .trades;
-      count = x .count;
-      first = e .counts .logged;
-      number = 0;
-    }
+abbrev answer : Counts → ℕ → ℕ → Executed → Booking → Ticked
+answer c first n x b = record { exchange = record { book = b .book; counts = c }; trades = x .trades; count = x .count; first = first; number = n }
 
 module _ (e : UistV1) (t : Table) where
   abbrev kept : List Booked
@@ -65,76 +63,95 @@ module _ (e : UistV1) (t : Table) where
   abbrev from-kept : Executed → Booking
   from-kept x = record { book = x .book; at = x .kept; number = e .counts .given }
 
-  done : (x : Executed) (b : Booking) → brokenOf (e .counts) ≡ false → t .fault ≡ 0 →
-      x ≡ executeOf (e .book) (e .counts .resting) t → b ≡ bookWaitingOf (e .book) (e .counts) (from-kept x) → answer e x b ≡ tickOf e t
-  unfolding executeOf bookWaitingOf ticked tickOf
-  done x b h f p q =
+  abbrev after : Executed → Booking → Counts
+  after x b = countsAfter (e .counts) (b .at) (b .number) (x .count)
+
+  acts : (x : Executed) (b : Booking) → x ≡ executeOf (e .book) (e .counts .resting) t →
+      b ≡ bookWaitingOf (e .book) (e .counts .resting) (e .counts .waits) (from-kept x) → answer (after x b) (e .counts .logged) 0 x b ≡ tickDone e (rowAt t)
+  unfolding executeOf bookWaitingOf ticked
+  acts x b p q =
       let x₀ = executeOf (e .book) (e .counts .resting) t in
-      let b₀ = q ∙ ap (λ (y : Executed). bookWaitingOf (e .book) (e .counts) (from-kept y)) p
+      let b₀ = q ∙ ap (λ (y : Executed). bookWaitingOf (e .book) (e .counts .resting) (e .counts .waits) (from-kept y)) p
       ∙ ap (λ l. bookSideOf (from-kept x₀) (sellsFirst l)) waiting-in
       ∙ booked-behind kept (e .book) (e .counts .given) (sellsFirst (waitingOf e)) in
-      ap (λ (y : Executed). answer e y b) p ∙ ap (answer e x₀) b₀ ∙ rw (h, f)
+      ap (λ (y : Executed). answer (after y b) (e .counts .logged) 0 y b) p ∙ ap (λ (d : Booking). answer (after x₀ d) (e .counts .logged) 0 x₀ d) b₀
 
-  -- no more stay, or trade, than rest
-  kept-fits : (x : Executed) → x ≡ executeOf (e .book) (e .counts .resting) t → x .kept + x .count ≤ e .counts .resting
-  unfolding executeOf
-  kept-fits x p = rw p (few-executed (rowAt t) (e .book) (e .counts .resting))
+  rests : (x : Executed) (b : Booking) (n : ℕ) → x ≡ executeOf (e .book) 0 t → b ≡ bookWaitingOf (e .book) 0 0 (from-kept x) → answer (e .counts) 0 n x b ≡ refusedWith e n
+  unfolding executeOf bookWaitingOf
+  rests x b n p q =
+      let x₀ = executeOf (e .book) 0 t in
+      let b₀ = q ∙ book-none (from-kept x) ∙ ap from-kept p in
+      ap (λ (y : Executed). answer (e .counts) 0 n y b) p ∙ ap (answer (e .counts) 0 n x₀) b₀
 
-broken-requires : tie.Need-broken-requires
-broken-requires c κs = search needs
+  tick-by : (n : ℕ) → n ≡ tickNumber e (t .fault) → unlessDrawn n (tickDone e (rowAt t)) (refusedWith e n) ≡ tickOf e t
+  unfolding tickOf
+  tick-by n h = ap (λ (m : ℕ). unlessDrawn m (tickDone e (rowAt t)) (refusedWith e m)) h
 
-refused-requires : tie.Need-refused-requires
-refused-requires c κs = search needs
+  done : (n r w f : ℕ) (x : Executed) (b : Booking) (c : Counts) → n ≡ tickNumber e (t .fault) → r ≡ unlessDrawn n (e .counts .resting) 0 → w ≡ unlessDrawn n (e .counts .waits) 0 →
+      x ≡ executeOf (e .book) r t → b ≡ bookWaitingOf (e .book) r w (from-kept x) → c ≡ unlessDrawn n (after x b) (e .counts) → f ≡ unlessDrawn n (e .counts .logged) 0 →
+      answer c f n x b ≡ tickOf e t
+  done zero r w f x b c h hr hw p q hc hf =
+      let p₀ = p ∙ ap (λ (m : ℕ). executeOf (e .book) m t) hr in
+      let q₀ = q ∙ ap (λ (m : ℕ). bookWaitingOf (e .book) m w (from-kept x)) hr ∙ ap (λ (m : ℕ). bookWaitingOf (e .book) (e .counts .resting) m (from-kept x)) hw in
+      ap (λ (d : Counts). answer d f 0 x b) hc ∙ ap (λ (m : ℕ). answer (after x b) m 0 x b) hf ∙ acts x b p₀ q₀ ∙ tick-by 0 h
+  done (suc n) r w f x b c h hr hw p q hc hf =
+      let p₀ = p ∙ ap (λ (m : ℕ). executeOf (e .book) m t) hr in
+      let q₀ = q ∙ ap (λ (m : ℕ). bookWaitingOf (e .book) m w (from-kept x)) hr ∙ ap (λ (m : ℕ). bookWaitingOf (e .book) 0 m (from-kept x)) hw in
+      ap (λ (d : Counts). answer d f (suc n) x b) hc ∙ ap (λ (m : ℕ). answer (e .counts) m (suc n) x b) hf ∙ rests x b (suc n) p₀ q₀ ∙ tick-by (suc n) h
 
-returns : tie.Need-returns
-returns c = c .refused .ensures ∙ refused-broken _ _ (sym (c .before .before .broken .ensures) ∙ c .before .if1 .taken)
+-- no more stay, or trade, than the tick goes over
+kept-fits : (book : List Booked) (t : Table) (r : ℕ) (x : Executed) → x ≡ executeOf book r t → x .kept + x .count ≤ r
+unfolding executeOf
+kept-fits book t r x p = rw p (few-executed (rowAt t) book r)
 
-refused-requires-2 : tie.Need-refused-requires-2
-refused-requires-2 c κs = search needs
+tick-fault-requires : tie.Need-tick-fault-requires
+tick-fault-requires c κs = search needs
 
--- past the two refusals
-not-broken : (c : tie.Else1) → brokenOf (c .before .before .before .args .self .counts) ≡ false
-not-broken c = sym (c .before .broken .ensures) ∙ c .if1 .left
+count-unless-requires : tie.Need-count-unless-requires
+count-unless-requires c κs = search needs
 
-facts : (c : tie.Else1) → Sound (c .before .before .before .args .self .counts)
-facts c = sound-facts _ (not-broken c)
+count-unless-requires-2 : tie.Need-count-unless-requires-2
+count-unless-requires-2 c κs = search needs
 
-returns-2 : tie.Need-returns-2
-returns-2 c = c .refused2 .ensures ∙ refused-fault _ _ (not-broken (c .before .before .before)) (c .before .if2 .taken)
+-- what the tick goes over, after the second count
+over-fits : (c : tie.After-count-unless2) → c .before .count-unless .result + c .count-unless2 .result ≤ 1024
+over-fits c =
+    let s = c .before .before .before .before .args in
+    omega (arith, c .before .count-unless .ensures, c .count-unless2 .ensures, fits (s .self .counts) (s .quotes .fault) _ (c .before .before .tick-fault .ensures))
 
 execute-orders-requires : tie.Need-execute-orders-requires
-execute-orders-requires c κs = omega (arith, facts (c .before .before .before) .together)
+execute-orders-requires c κs = omega (arith, over-fits (c .before))
 
-kept-at : (c : tie.After-execute-orders) →
-    c .execute-orders .result .kept + c .execute-orders .result .count ≤ c .before .before .before .before .before .before .before .args .self .counts .resting
-kept-at c =
-    let s = c .before .before .before .before .before .before .before in
-    kept-fits (s .args .self) (s .args .quotes) _ (c .execute-orders .ensures)
+kept-at : (c : tie.After-execute-orders) → c .execute-orders .result .kept + c .execute-orders .result .count ≤ c .before .before .before .count-unless .result
+kept-at c = kept-fits _ _ _ _ (c .execute-orders .ensures)
 
 book-waiting-requires : tie.Need-book-waiting-requires
-book-waiting-requires c κs = (facts (c .before .before .before .before .before .before) .together, omega (arith, kept-at (c .before .before)))
+book-waiting-requires c κs = (over-fits (c .before .before .before .before), omega (arith, kept-at (c .before .before)))
 
-add-t15 : tie.Need-add-t15
-add-t15 c =
-    let x = c .before .before .before .before .before in
-    let f = facts (x .before .before .before .before) in
-    omega (arith, kept-at x)
+counts-after-requires : tie.Need-counts-after-requires
+counts-after-requires c κs z =
+    let x = c .before .before .before .before in
+    let s = x .before .before .before .before .before .before .args in
+    logs-fit (s .self .counts) (s .quotes .fault) _ _ (x .before .before .before .before .tick-fault .ensures)
+    (omega (arith, kept-at x, x .before .before .before .count-unless .ensures)) z
 
-returns-3 : tie.Need-returns-3
-returns-3 c =
-    let x = c .before .before .before .before .before in
-    done _ _ _ _ (not-broken (x .before .before .before .before)) (x .before .before .if2 .left) (x .execute-orders .ensures) (c .before .before .book-waiting .ensures)
+count-unless-requires-3 : tie.Need-count-unless-requires-3
+count-unless-requires-3 c κs = search needs
+
+returns : tie.Need-returns
+returns c =
+    done _ _ _ _ _ _ _ _ _ (c .before .before .before .before .before .before .before .before .before .before .tick-fault .ensures) (c .before .before .before .before .before .before .before .before .before .count-unless .ensures) (c .before .before .before .before .before .before .before .before .count-unless2 .ensures)
+    (c .before .before .before .before .before .before .execute-orders .ensures) (c .before .before .before .book-waiting .ensures) (c .before .counts-after .ensures) (c .count-unless3 .ensures)
 
 pub tick-spec : {M : Type 1} → statement M
 tick-spec =
     tie.close
     (tie.spec
-    broken-requires
-    refused-requires
-    returns
-    refused-requires-2
-    returns-2
+    tick-fault-requires
+    count-unless-requires
+    count-unless-requires-2
     execute-orders-requires
     book-waiting-requires
-    add-t15
-    returns-3)
+    counts-after-requires
+    count-unless-requires-3
+    returns)

@@ -1,0 +1,14 @@
+-- `count_unless` meets its contract: each return is the test on its path.
+use borrow.Author.Needs.{needs}
+use Rattle.exchange.proofs.Counting.{unless-some}
+use Rattle.exchange.proofs.tick.count_unless.Statement.{statement}
+use Rattle.exchange.proofs.tick.count_unless.Tie as tie
+
+returns : tie.Need-returns
+returns c = unless-some _ _ _ (c .if1 .taken)
+
+returns-2 : tie.Need-returns-2
+returns-2 c = search needs
+
+pub count-unless-spec : {M : Type 1} → statement M
+count-unless-spec = tie.close (tie.spec returns returns-2)
