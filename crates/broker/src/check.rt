@@ -1,8 +1,12 @@
 // A check: ticks, takes the fetched quotes, books the trades, and liquidates a shortfall.
 ghost use mathlib.Core.Path.{_≡_};
 ghost use lib.ListN.{take};
+ghost use mathlib.Core.Bool.{true};
 ghost use mathlib.Core.List.{foldl};
+ghost use Rattle.market.specs.Orders.{zero64};
+ghost use Rattle.rules.specs.Amounts.{below};
 ghost use Rattle.broker.specs.Send.{SendsFit};
+ghost use Rattle.broker.specs.Cash.{cashOf};
 ghost use Rattle.broker.specs.Check.{settleOf, settleOne, mergeOf, checkNumber, failedOf, Rescues, Checks};
 use crate::liquidate::Liquidated;
 use crate::state::Funds;
@@ -147,18 +151,11 @@ impl UistBroker {
 
     // A shortfall liquidates itself and the buffer; where that fails, the broker is Failed for good.
     fn rebalance_cash(self) -> Liquidated
-        requires { ⌜ SendsFit (self .exchange .counts) ⌝ }
+        requires { ⌜ SendsFit (self .exchange .counts) × (below (cashOf self) zero64 ≡ true) ⌝ }
         ensures { λ r. ⌜ Rescues self r ⌝ }
     {
         let portfolio = self.portfolio;
         let funds = portfolio.funds;
-        if !(funds.cash < 0.0) {
-            return Liquidated {
-                broker: self,
-                done: true,
-                queued: 0,
-            };
-        }
         let x = self.liquidate(-funds.cash + UistBroker::BUFFER);
         if x.done {
             return x;
@@ -203,6 +200,16 @@ impl UistBroker {
             exchange: ticked,
             portfolio: booked,
         };
+        if !(funds.cash < 0.0) {
+            return Checked {
+                broker: b,
+                trades: trades,
+                count: x.count,
+                first: x.first,
+                queued: 0,
+                number: 0,
+            };
+        }
         let y = b.rebalance_cash();
         let broker = y.broker;
         Checked {

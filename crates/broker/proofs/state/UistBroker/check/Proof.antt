@@ -1,19 +1,24 @@
 -- `check` meets its contract: what its calls give, put together, is the check's definition.
 use Prim.Native.Nat.{ℕ, zero, suc, _≤_}
+use mathlib.Core.Bool.{true, false}
 use mathlib.Core.Path.{_≡_, refl, sym, ap, subst, _∙_}
 use mathlib.Core.List.{List, foldl}
 use native.Mathlib.Omega.{arith}
 use lib.ListN.{length, take}
 use borrow.Author.Needs.{needs}
+use borrow.Author.Tests.{not-true, not-false}
 use Rattle.lists.proofs.Over.{take-over}
+use Rattle.market.specs.Orders.{zero64}
 use Rattle.market.specs.Quotes.{rowAt}
 use Rattle.market.specs.declared.table.Table.{Table}
 use Rattle.market.specs.declared.trade.Trade.{Trade}
 use Rattle.exchange.specs.State.{restingOf}
 use Rattle.exchange.specs.Tick.{noTrades, tradesOf, tickDone, tickOf}
 use Rattle.exchange.specs.declared.tick.Ticked.{Ticked}
+use Rattle.rules.specs.Amounts.{below}
 use Rattle.broker.specs.State.{moneyOf}
 use Rattle.broker.specs.Send.{SendsFit}
+use Rattle.broker.specs.Cash.{cashOf}
 use Rattle.broker.specs.Liquidate.{heldCount}
 use Rattle.broker.specs.Check.{settleOne, mergeOf, rescuedBy, Rescues, checkNumber, bookedBy, checkedBy, Checks}
 use Rattle.broker.specs.declared.state.Funds.{Funds}
@@ -67,6 +72,11 @@ module _ (b : UistBroker) (t f : Table) (n : ℕ) where
             queued = subst (λ (z : UistBroker). y .queued ≤ heldCount (moneyOf (z .portfolio))) booked (v .queued);
           }
 
+-- no shortfall
+no-shortfall : (b : UistBroker) → below (cashOf b) zero64 ≡ false → Rescues b (record { broker = b; done = true; queued = 0 })
+unfolding rescuedBy
+no-shortfall b h = record { broker = rw h; queued = omega arith }
+
 check-fault-requires : tie.Need-check-fault-requires
 check-fault-requires c κs = search needs
 
@@ -88,17 +98,23 @@ none-drawn : (c : tie.Else1) →
     number (a .self) (a .tradable) (a .fetched) (a .log-length) ≡ 0
 none-drawn c = sym (c .before .before .before .check-fault .ensures) ∙ c .if1 .left
 
-rebalance-cash-requires : tie.Need-rebalance-cash-requires
-rebalance-cash-requires c κs =
-    let e = c .before .before .before .before in
-    let a = e .before .before .before .before .before .before .args in
-    fits (a .self) (a .tradable) (a .fetched) (a .log-length) (none-drawn e) _ (e .before .before .tick .ensures)
-
 returns-2 : tie.Need-returns-2
 returns-2 c =
     let m = c .before .before .before .before .before in
     let e = m .before in
-    acted _ _ _ _ (none-drawn e) _ (e .before .before .tick .ensures) _ (m .merge .ensures) _ (c .before .before .before .before .settle .ensures) _ (c .before .rebalance-cash .ensures)
+    acted _ _ _ _ (none-drawn e) _ (e .before .before .tick .ensures) _ (m .merge .ensures) _ (c .before .before .before .before .settle .ensures) _ (no-shortfall _ (not-true _ (c .if2 .taken)))
+
+rebalance-cash-requires : tie.Need-rebalance-cash-requires
+rebalance-cash-requires c κs =
+    let e = c .before .before .before .before .before .before in
+    let a = e .before .before .before .before .before .before .args in
+    (fits (a .self) (a .tradable) (a .fetched) (a .log-length) (none-drawn e) _ (e .before .before .tick .ensures), not-false _ (c .if2 .left))
+
+returns-3 : tie.Need-returns-3
+returns-3 c =
+    let m = c .before .before .before .before .before .before .before in
+    let e = m .before in
+    acted _ _ _ _ (none-drawn e) _ (e .before .before .tick .ensures) _ (m .merge .ensures) _ (c .before .before .before .before .before .before .settle .ensures) _ (c .before .rebalance-cash .ensures)
 
 pub check-spec : {M : Type 1} → statement M
 check-spec =
@@ -109,5 +125,6 @@ check-spec =
     returns
     merge-requires
     settle-requires
+    returns-2
     rebalance-cash-requires
-    returns-2)
+    returns-3)
