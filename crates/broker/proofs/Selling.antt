@@ -27,12 +27,11 @@ use Rattle.rules.specs.Money.{Money, orZero, unlessZero}
 use Rattle.rules.specs.Values.{symbols, valueAt, valueOf, liquidationValue}
 use Rattle.rules.specs.Liquidation.{Sales, selling, lastSale, walk, salesFor}
 use Rattle.broker.specs.State.{moneyOf}
-use Rattle.broker.specs.Send.{blankOrder, noOrders, listed, sentAll, sendAllOf}
+use Rattle.broker.specs.Send.{blankOrder, noOrders, listed, sentAll}
 use Rattle.broker.specs.Cash.{withCash, cashOf, answered}
 use Rattle.broker.specs.Liquidate.{partIn, soldIn, salesIn, failing, salesOf, liquidatedBy, succeeds, isHeld, heldCount, Liquidates, liquidateOf}
 use Rattle.broker.specs.declared.state.Funds.{Funds}
 use Rattle.broker.specs.declared.state.UistBroker.{UistBroker}
-use Rattle.broker.specs.declared.send.SentAll.{SentAll}
 use Rattle.broker.specs.declared.liquidate.Part.{Part}
 use Rattle.broker.specs.declared.liquidate.Sold.{Sold}
 use Rattle.broker.specs.declared.liquidate.SaleList.{SaleList}
@@ -282,14 +281,12 @@ sales-some m a x t e =
 
 -- ---- how many orders a send takes: at most all of them
 
-module _ (b : UistBroker) (l : List Order) (s : SentAll) (e : s ≡ sendAllOf b l) where
-  pub sent-grows : b .exchange .counts .taken ≤ s .broker .exchange .counts .taken
-  unfolding sendAllOf
-  sent-grows = omega (arith, ap (λ (x : SentAll). x .broker .exchange .counts .taken) e, taken-grows b l)
+module _ (b : UistBroker) (l : List Order) (s : UistBroker) (e : s ≡ sentAll b l) where
+  pub sent-grows : b .exchange .counts .taken ≤ s .exchange .counts .taken
+  sent-grows = omega (arith, ap (λ (x : UistBroker). x .exchange .counts .taken) e, taken-grows b l)
 
-  queued-few : s .broker .exchange .counts .taken - b .exchange .counts .taken ≤ length l
-  unfolding sendAllOf
-  queued-few = omega (arith, ap (λ (x : SentAll). x .broker .exchange .counts .taken) e, sent-taken b l)
+  queued-few : s .exchange .counts .taken - b .exchange .counts .taken ≤ length l
+  queued-few = omega (arith, ap (λ (x : UistBroker). x .exchange .counts .taken) e, sent-taken b l)
 
 -- ---- what a liquidation makes of them
 
@@ -311,13 +308,13 @@ module _ (b : UistBroker) (a : Float) (x : SaleList) (e : salesIn x ≡ salesOf 
   found-by t f = sym e ∙ ap (λ (c : Bool). cond c (some (listed (x .list))) none) f
 
   -- with rest 0 the orders are sent
-  pub liquidates-sent : (s : SentAll) → x .found ≡ true → s ≡ sendAllOf b (listed (x .list)) →
-      Liquidates b a (record { broker = s .broker; done = true; queued = s .broker .exchange .counts .taken - b .exchange .counts .taken })
-  unfolding liquidatedBy sendAllOf
+  pub liquidates-sent : (s : UistBroker) → x .found ≡ true → s ≡ sentAll b (listed (x .list)) →
+      Liquidates b a (record { broker = s; done = true; queued = s .exchange .counts .taken - b .exchange .counts .taken })
+  unfolding liquidatedBy
   liquidates-sent s f es =
       let found = found-by true f in
       record {
-        broker = ap (λ (y : SentAll). y .broker) es ∙ ap (λ (o : Option (List Order)). given o (failing b a) (sentAll b)) (sym found);
+        broker = es ∙ ap (λ (o : Option (List Order)). given o (failing b a) (sentAll b)) (sym found);
         done = ap (λ (o : Option (List Order)). succeeds o) (sym found);
         queued = omega (arith, queued-few b (listed (x .list)) s es, sales-few (moneyOf (b .portfolio)) a (listed (x .list)) found);
       }

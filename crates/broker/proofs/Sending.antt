@@ -25,6 +25,7 @@ use Rattle.market.specs.declared.quote.Quote.{Quote}
 use Rattle.market.specs.declared.table.Table.{Table}
 use Rattle.market.proofs.Numbers.{Numbered, order-numbered, append-none, none-drawn}
 use Rattle.exchange.specs.Insert.{roomTests, takenOne, joined}
+use Rattle.exchange.specs.declared.state.Booked.{Booked}
 use Rattle.exchange.specs.declared.state.Counts.{Counts}
 use Rattle.exchange.specs.declared.state.UistV1.{UistV1}
 use Rattle.exchange.proofs.Counting.{Sound, room-facts}
@@ -281,6 +282,39 @@ module _ (b : UistBroker) (o : Order) (e : OrderEvent)
       ap (λ (y : UistV1). brokerOf (b .portfolio .latest) (b .portfolio .costs) y f) j
       ∙ ap (λ (y : Funds). brokerOf (b .portfolio .latest) (b .portfolio .costs) (b .exchange) y) g
       ∙ sent-refused b o (λ z. h (sym number-for ∙ z))
+
+-- the broker that the arrays and counts of a loop make
+abbrev pub fundsWith : Funds → List Float → List Bool → Funds
+fundsWith f pending awaited = record { holding = f .holding; pending = pending; awaited = awaited; cash = f .cash; failed = f .failed }
+
+abbrev pub brokerWith : Table → TradeCosts → Funds → List Booked → Counts → List Float → List Bool → UistBroker
+brokerWith latest costs f book c pending awaited = brokerOf latest costs (record { book = book; counts = c }) (fundsWith f pending awaited)
+
+same-exchange : (x y : UistV1) → x .book ≡ y .book → x .counts ≡ y .counts → x ≡ y
+same-exchange x y p q =
+    ap (λ (l : List Booked). record { book = l; counts = x .counts }) p ∙ ap (λ (c : Counts). record { book = y .book; counts = c }) q
+
+same-pending : (f : Funds) (p q : List Float) (a b : List Bool) → p ≡ q → a ≡ b → fundsWith f p a ≡ fundsWith f q b
+same-pending f p q a b x y = ap (λ (l : List Float). fundsWith f l a) x ∙ ap (fundsWith f q) y
+
+module _ (b : UistBroker) (o : Order) (e : OrderEvent)
+    (a : e ≡ eventAt o (b .portfolio .funds .failed) (b .portfolio .funds .cash) (atSymbol (b .portfolio) (o .symbol % 256)) (b .exchange .counts)) where
+  abbrev with : List Booked → Counts → List Float → List Bool → UistBroker
+  with = brokerWith (b .portfolio .latest) (b .portfolio .costs) (b .portfolio .funds)
+
+  pub takes-parts : (book : List Booked) (c : Counts) (pending : List Float) (awaited : List Bool) (p : Float) → e .number ≡ 0 →
+      book ≡ joined (b .exchange) o .book → c ≡ joined (b .exchange) o .counts →
+      p ≡ pendingAfter o (getD (b .portfolio .funds .awaited) (o .symbol % 256) false) (getD (b .portfolio .funds .pending) (o .symbol % 256) nan) →
+      pending ≡ set (b .portfolio .funds .pending) (o .symbol % 256) p → awaited ≡ set (b .portfolio .funds .awaited) (o .symbol % 256) true →
+      with book c pending awaited ≡ sentOne b o
+  takes-parts book c pending awaited p z j k m g h =
+      takes-one b o e a _ _ p z (same-exchange _ (joined (b .exchange) o) j k) m (same-pending (b .portfolio .funds) _ _ _ _ g h)
+
+  pub passes-parts : (book : List Booked) (c : Counts) (pending : List Float) (awaited : List Bool) → (e .number ≡ 0 → ⊥) →
+      book ≡ b .exchange .book → c ≡ b .exchange .counts → pending ≡ b .portfolio .funds .pending → awaited ≡ b .portfolio .funds .awaited →
+      with book c pending awaited ≡ sentOne b o
+  passes-parts book c pending awaited d j k g h =
+      passes-one b o e a _ _ d (same-exchange _ (b .exchange) j k) (same-pending (b .portfolio .funds) _ _ _ _ g h)
 
 -- after i turns: the rest sent from here gives the whole, and its events stand behind those that are done
 pub record Inv (start : UistBroker) (list : OrderList) (b : UistBroker) (events : List OrderEvent) (i : ℕ) : Type 0 where

@@ -96,9 +96,6 @@ noEvents = replicate 256 (eventOf blankOrder 0)
 unfoldable pub noOrders : OrderList
 noOrders = record { orders = replicate 256 blankOrder; count = 0 }
 
-unfoldable pub oneOrder : Order → OrderList
-oneOrder o = record { orders = set (replicate 256 blankOrder) 0 o; count = 1 }
-
 -- the orders of a list
 abbrev pub listed : OrderList → List Order
 listed l = take (l .count) (l .orders)

@@ -142,8 +142,7 @@ impl UistBroker {
         let sales = sales_for(portfolio, amount);
         if sales.found {
             let list = sales.list;
-            let sent = self.send_all(list);
-            let broker = sent.broker;
+            let broker = self.queue_all(list);
             let after = broker.exchange;
             let before = self.exchange;
             return Liquidated {

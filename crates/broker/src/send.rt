@@ -1,14 +1,18 @@
 // Sends: an order goes to the exchange, and pending moves.
 ghost use mathlib.Core.Path.{_≡_};
+ghost use mathlib.Core.Bool.{cond};
 ghost use mathlib.Core.Option.{some};
 ghost use Rattle.market.specs.Trades.{rowIf};
+ghost use Rattle.exchange.specs.State.{brokenOf};
 ghost use Rattle.rules.specs.Money.{unlessZero};
 ghost use Rattle.rules.specs.Sends.{isMarket, poor, short};
-ghost use Rattle.broker.specs.Send.{quoteIn, eventOf, eventAt, pendingAfter, noEvents, noOrders, oneOrder, listed, SendsFit, sendAllOf, sendOf, insertOf, deleteOf};
+ghost use Rattle.broker.specs.Send.{quoteIn, eventOf, eventAt, pendingAfter, noEvents, noOrders, listed, SendsFit, sentAll, sendAllOf, sendOf, insertOf, deleteOf};
+use crate::state::Funds;
 use crate::state::Portfolio;
 use crate::state::UistBroker;
 use exchange::state::Booked;
 use exchange::state::Counts;
+use exchange::state::UistV1;
 use market::order::Order;
 use market::order::OrderType;
 use market::quote::Quote;
@@ -141,6 +145,16 @@ fn send_event(o: Order, failed: bool, cash: f64, x: AtSymbol, counts: Counts) ->
     event(o, counts.room_fault())
 }
 
+// 16, then the order's own event.
+fn sound_event(o: Order, failed: bool, cash: f64, x: AtSymbol, counts: Counts) -> OrderEvent
+    ensures { λ r. ⌜ r ≡ cond (brokenOf counts) (eventOf o 16) (eventAt o failed cash x counts) ⌝ }
+{
+    if counts.broken() {
+        return event(o, 16);
+    }
+    send_event(o, failed, cash, x, counts)
+}
+
 // A symbol's pending quantity with an order's effect.
 fn pending_after(o: Order, awaited: bool, pending: f64) -> f64
     ensures { λ r. ⌜ r ≡ pendingAfter o awaited pending ⌝ }
@@ -174,28 +188,24 @@ impl OrderList {
             count: 0,
         }
     }
-
-    fn one(order: Order) -> OrderList
-        ensures { λ r. ⌜ r ≡ oneOrder order ⌝ }
-    {
-        let mut list = OrderList::none();
-        list.orders[0] = order;
-        list.count = 1;
-        list
-    }
 }
 
 impl UistBroker {
-    // Sends the listed orders one after the other, in place.
+    // Sends the listed orders one after the other. The arrays that change stand in variables of their
+    // own: each is then copied once, and not with all the state.
     pub(crate) fn send_all(self, list: OrderList) -> SentAll
         requires { ⌜ SendsFit (self .exchange .counts) ⌝ }
         ensures { λ r. ⌜ r ≡ sendAllOf self (listed list) ⌝ }
     {
+        let exchange = self.exchange;
         let portfolio = self.portfolio;
         let latest = portfolio.latest;
+        let funds = portfolio.funds;
         let costs = portfolio.costs;
-        let mut exchange = self.exchange;
-        let mut funds = portfolio.funds;
+        let mut book = exchange.book;
+        let mut counts = exchange.counts;
+        let mut pending = funds.pending;
+        let mut awaited = funds.awaited;
         let mut events = no_events();
         let mut i: usize = 0;
         while i < 256 {
@@ -210,33 +220,105 @@ impl UistBroker {
                 quote: q,
                 holding: funds.holding[at],
             };
-            let c = exchange.counts;
-            let e = send_event(o, funds.failed, funds.cash, x, c);
+            let e = send_event(o, funds.failed, funds.cash, x, counts);
             if e.number == 0 {
-                let place = c.resting + c.waits;
-                exchange.book[place] = Booked {
+                let place = counts.resting + counts.waits;
+                book[place] = Booked {
                     number: 0,
                     order: o,
                 };
-                exchange.counts.waits = c.waits + 1;
-                exchange.counts.taken = c.taken + 1;
-                funds.pending[at] = pending_after(o, funds.awaited[at], funds.pending[at]);
-                funds.awaited[at] = true;
+                counts.waits = counts.waits + 1;
+                counts.taken = counts.taken + 1;
+                pending[at] = pending_after(o, awaited[at], pending[at]);
+                awaited[at] = true;
             }
             events[i] = e;
             i = i + 1;
         }
+        let holding = funds.holding;
         let moved = Portfolio {
             latest: latest,
-            funds: funds,
+            funds: Funds {
+                holding: holding,
+                pending: pending,
+                awaited: awaited,
+                cash: funds.cash,
+                failed: funds.failed,
+            },
             costs: costs,
         };
         SentAll {
             broker: UistBroker {
-                exchange: exchange,
+                exchange: UistV1 {
+                    book: book,
+                    counts: counts,
+                },
                 portfolio: moved,
             },
             events: events,
+        }
+    }
+
+    // The same for the sales of a liquidation, whose events nobody asks for. A second function, since a
+    // call of the one above by two callers would copy all the state twice.
+    pub(crate) fn queue_all(self, list: OrderList) -> UistBroker
+        requires { ⌜ SendsFit (self .exchange .counts) ⌝ }
+        ensures { λ r. ⌜ r ≡ sentAll self (listed list) ⌝ }
+    {
+        let exchange = self.exchange;
+        let portfolio = self.portfolio;
+        let latest = portfolio.latest;
+        let funds = portfolio.funds;
+        let costs = portfolio.costs;
+        let mut book = exchange.book;
+        let mut counts = exchange.counts;
+        let mut pending = funds.pending;
+        let mut awaited = funds.awaited;
+        let mut i: usize = 0;
+        while i < 256 {
+            if i >= list.count {
+                break;
+            }
+            let o = list.orders[i];
+            let at = (o.symbol % 256) as usize;
+            let q = latest.rows[at];
+            let x = AtSymbol {
+                present: latest.present[at],
+                quote: q,
+                holding: funds.holding[at],
+            };
+            let e = send_event(o, funds.failed, funds.cash, x, counts);
+            if e.number == 0 {
+                let place = counts.resting + counts.waits;
+                book[place] = Booked {
+                    number: 0,
+                    order: o,
+                };
+                counts.waits = counts.waits + 1;
+                counts.taken = counts.taken + 1;
+                pending[at] = pending_after(o, awaited[at], pending[at]);
+                awaited[at] = true;
+            }
+            i = i + 1;
+        }
+        let holding = funds.holding;
+        let moved = Portfolio {
+            latest: latest,
+            funds: Funds {
+                holding: holding,
+                pending: pending,
+                awaited: awaited,
+                cash: funds.cash,
+                failed: funds.failed,
+            },
+            costs: costs,
+        };
+        UistBroker {
+            exchange: UistV1 {
+                book: book,
+                counts: counts,
+            },
+            portfolio: moved,
         }
     }
 
@@ -244,18 +326,57 @@ impl UistBroker {
         ensures { λ r. ⌜ r ≡ sendOf self order ⌝ }
     {
         let exchange = self.exchange;
-        let counts = exchange.counts;
-        if counts.broken() {
+        let portfolio = self.portfolio;
+        let latest = portfolio.latest;
+        let funds = portfolio.funds;
+        let costs = portfolio.costs;
+        let mut counts = exchange.counts;
+        let at = (order.symbol % 256) as usize;
+        let q = latest.rows[at];
+        let x = AtSymbol {
+            present: latest.present[at],
+            quote: q,
+            holding: funds.holding[at],
+        };
+        let e = sound_event(order, funds.failed, funds.cash, x, counts);
+        if e.number != 0 {
             return Sent {
                 broker: self,
-                event: event(order, 16),
+                event: e,
             };
         }
-        let sent = self.send_all(OrderList::one(order));
-        let broker = sent.broker;
-        let e = sent.events[0];
+        let mut book = exchange.book;
+        let mut pending = funds.pending;
+        let mut awaited = funds.awaited;
+        let holding = funds.holding;
+        let place = counts.resting + counts.waits;
+        book[place] = Booked {
+            number: 0,
+            order: order,
+        };
+        counts.waits = counts.waits + 1;
+        counts.taken = counts.taken + 1;
+        pending[at] = pending_after(order, awaited[at], pending[at]);
+        awaited[at] = true;
+        let moved = Portfolio {
+            latest: latest,
+            funds: Funds {
+                holding: holding,
+                pending: pending,
+                awaited: awaited,
+                cash: funds.cash,
+                failed: funds.failed,
+            },
+            costs: costs,
+        };
         Sent {
-            broker: broker,
+            broker: UistBroker {
+                exchange: UistV1 {
+                    book: book,
+                    counts: counts,
+                },
+                portfolio: moved,
+            },
             event: e,
         }
     }

@@ -2,6 +2,7 @@
 use mathlib.Core.Path.{ap, _∙_}
 use borrow.Author.Needs.{needs}
 use Rattle.account.specs.declared.Moved.{Moved}
+use Rattle.broker.specs.Send.{listed}
 use Rattle.broker.proofs.Selling.{sent-grows, debits, liquidates-sent, liquidates-not}
 use Rattle.broker.proofs.state.UistBroker.liquidate.Statement.{statement}
 use Rattle.broker.proofs.state.UistBroker.liquidate.Tie as tie
@@ -9,18 +10,21 @@ use Rattle.broker.proofs.state.UistBroker.liquidate.Tie as tie
 sales-for-requires : tie.Need-sales-for-requires
 sales-for-requires c κs = search needs
 
-send-all-requires : tie.Need-send-all-requires
-send-all-requires c κs = c .before .before .before .before .before .pre
+queue-all-requires : tie.Need-queue-all-requires
+queue-all-requires c κs = c .before .before .before .before .before .pre
 
-sub-t13 : tie.Need-sub-t13
-sub-t13 c = let sent = c .before .before .before .before .before .send-all in sent-grows _ _ _ (sent .ensures)
+sub-t12 : tie.Need-sub-t12
+sub-t12 c =
+    let sent = c .before .before .before .before in
+    let found = sent .before .before in
+    sent-grows (found .before .before .before .before .args .self) (listed (found .before .sales-for .result .list)) (sent .queue-all .result) (sent .queue-all .ensures)
 
 returns : tie.Need-returns
 returns c =
-    let sent = c .before .before .before .before .before in
+    let sent = c .before .before .before .before in
     let found = sent .before .before in
     let a = found .before .before .before .before .args in
-    liquidates-sent (a .self) (a .amount) (found .before .sales-for .result) (found .before .sales-for .ensures) (sent .send-all .result) (found .if1 .taken) (sent .send-all .ensures)
+    liquidates-sent (a .self) (a .amount) (found .before .sales-for .result) (found .before .sales-for .ensures) (sent .queue-all .result) (found .if1 .taken) (sent .queue-all .ensures)
 
 debited-requires : tie.Need-debited-requires
 debited-requires c κs = search needs
@@ -40,8 +44,8 @@ liquidate-spec =
     tie.close
     (tie.spec
     sales-for-requires
-    send-all-requires
-    sub-t13
+    queue-all-requires
+    sub-t12
     returns
     debited-requires
     with-cash-requires

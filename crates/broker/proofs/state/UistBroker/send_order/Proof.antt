@@ -1,78 +1,152 @@
--- `UistBroker::send_order` meets its contract: a list of one order has that order's event first. Assumes nothing.
+-- `UistBroker::send_order` meets its contract: 16, a refusal, or the order taken, which has a place. Assumes nothing.
 use mathlib.Core.Path.{_≡_, refl, ap, sym, _∙_}
-use mathlib.Core.Bool.{true, false}
-use mathlib.Core.List.{[], _∷_}
-use lib.ListN.{getD}
+use mathlib.Core.Bool.{Bool, true, false, cond}
+use native.Mathlib.Omega.{arith}
 use borrow.Author.Needs.{needs}
+use Prim.Native.Nat.{_%_}
 use Rattle.market.specs.declared.order.Order.{Order}
 use Rattle.exchange.specs.State.{brokenOf}
 use Rattle.exchange.specs.declared.state.Counts.{Counts}
 use Rattle.exchange.proofs.Counting.{sound-facts}
-use Rattle.broker.specs.Send.{eventOf, eventsOf, oneOrder, listed, SendsFit, sendAllOf, sendOf}
+use Rattle.broker.specs.Send.{eventOf, eventAt, eventFor, sentOne, SendsFit, sendOf}
 use Rattle.broker.specs.declared.state.UistBroker.{UistBroker}
 use Rattle.broker.specs.declared.send.OrderEvent.{OrderEvent}
-use Rattle.broker.specs.declared.send.OrderList.{OrderList}
-use Rattle.broker.specs.declared.send.SentAll.{SentAll}
 use Rattle.broker.specs.declared.send.Sent.{Sent}
+use Rattle.broker.proofs.Sending.{OneFits, atSymbol, event-for, fits-here, takes-parts, sent-refused}
 use Rattle.broker.proofs.state.UistBroker.send_order.Statement.{statement}
 use Rattle.broker.proofs.state.UistBroker.send_order.Tie as tie
 
-refused : (b : UistBroker) (o : Order) (e : OrderEvent) → brokenOf (b .exchange .counts) ≡ true → e ≡ eventOf o 16 → record { broker = b; event = e } ≡ sendOf b o
-unfolding sendOf
-refused b o e h q = rw (h, q)
+module _ (b : UistBroker) (o : Order) (e : OrderEvent) where
+  abbrev own : OrderEvent
+  own = eventAt o (b .portfolio .funds .failed) (b .portfolio .funds .cash) (atSymbol (b .portfolio) (o .symbol % 256)) (b .exchange .counts)
 
--- what is read of the answer to a list
-abbrev firstOf : OrderEvent → SentAll → Sent
-firstOf d r = record { broker = r .broker; event = getD (r .events) 0 d }
+  abbrev answer : UistBroker → OrderEvent → Sent
+  answer x y = record { broker = x; event = y }
 
-one-listed : (o : Order) → listed (oneOrder o) ≡ o ∷ []
-unfolding oneOrder
-one-listed o = refl
+  refused-by : (t : Bool) → brokenOf (b .exchange .counts) ≡ t → e ≡ cond t (eventOf o 16) own → (e .number ≡ 0 → ⊥) → answer b e ≡ sendOf b o
+  unfolding sendOf
+  refused-by true h q d = ap (answer b) q ∙ rw h
+  refused-by false h q d =
+      let f = event-for b o e q in
+      ap (λ (x : UistBroker). answer x e) (sent-refused b o (λ z. d (ap (λ (y : OrderEvent). y .number) f ∙ z))) ∙ ap (answer (sentOne b o)) f ∙ rw h
 
-sent : (b : UistBroker) (o : Order) (l : OrderList) (r : SentAll) (d : OrderEvent) → brokenOf (b .exchange .counts) ≡ false → l ≡ oneOrder o → r ≡ sendAllOf b (listed l) →
-    firstOf d r ≡ sendOf b o
-unfolding sendAllOf eventsOf sendOf
-sent b o l r d h p q = ap (firstOf d) (q ∙ ap (λ (x : OrderList). sendAllOf b (listed x)) p ∙ ap (sendAllOf b) (one-listed o)) ∙ rw h
+  refused : e ≡ cond (brokenOf (b .exchange .counts)) (eventOf o 16) own → (e .number ≡ 0 → ⊥) → answer b e ≡ sendOf b o
+  refused q d = refused-by (brokenOf (b .exchange .counts)) refl q d
 
-fits : (k : Counts) → brokenOf k ≡ false → SendsFit k
-fits k h = let s = sound-facts k h in record { places = s .together; rows = s .bounded }
+  sound-by : (t : Bool) → brokenOf (b .exchange .counts) ≡ t → e ≡ cond t (eventOf o 16) own → e .number ≡ 0 → (brokenOf (b .exchange .counts) ≡ false) × (e ≡ own)
+  sound-by true h q z = absurd (omega (arith, ap (λ (y : OrderEvent). y .number) q, z))
+  sound-by false h q z = (h, q)
 
-broken-requires : tie.Need-broken-requires
-broken-requires c κs = search needs
+  module _ (q : e ≡ cond (brokenOf (b .exchange .counts)) (eventOf o 16) own) (z : e .number ≡ 0) where
+    abbrev sound : (brokenOf (b .exchange .counts) ≡ false) × (e ≡ own)
+    sound = sound-by (brokenOf (b .exchange .counts)) refl q z
 
-event-requires : tie.Need-event-requires
-event-requires c κs = search needs
+    one-fits : OneFits (b .exchange .counts)
+    one-fits =
+        let s = sound-facts (b .exchange .counts) (sound .0) in
+        fits-here b o e (sound .1) (record { places = s .together; rows = s .bounded }) z
+
+    taken : (x : UistBroker) → x ≡ sentOne b o → answer x e ≡ sendOf b o
+    unfolding sendOf
+    taken x p =
+        let h = sound .0 in
+        ap (λ (y : UistBroker). answer y e) p ∙ ap (answer (sentOne b o)) (event-for b o e (sound .1)) ∙ rw h
+
+cast-at : tie.Need-cast-at
+cast-at c = search needs
+
+mul-q : tie.Need-mul-q
+mul-q c = search needs
+
+element-copy-out-q : tie.Need-element-copy-out-q
+element-copy-out-q c = search needs
+
+element-copy-out-sound-event : tie.Need-element-copy-out-sound-event
+element-copy-out-sound-event c = search needs
+
+mul-sound-event : tie.Need-mul-sound-event
+mul-sound-event c = search needs
+
+element-copy-out-sound-event-2 : tie.Need-element-copy-out-sound-event-2
+element-copy-out-sound-event-2 c = search needs
+
+sound-event-requires : tie.Need-sound-event-requires
+sound-event-requires c κs = search needs
 
 returns : tie.Need-returns
-returns c =
-    let then = c .before in
-    refused _ _ _ (sym (then .before .broken .ensures) ∙ then .if1 .taken) (c .event .ensures)
+returns c = refused _ _ _ (c .before .before .sound-event .ensures) (c .if1 .taken)
 
-one-requires : tie.Need-one-requires
-one-requires c κs = search needs
+fits : (c : tie.Else1) → OneFits (c .before .before .before .before .before .before .before .before .before .before .before .before .before .args .self .exchange .counts)
+fits c =
+    let a = c .before .before .before .before .before .before .before .before .before .before .before .before .before .args in
+    one-fits (a .self) (a .order) _ (c .before .before .sound-event .ensures) (c .if1 .left)
 
-not-broken : (c : tie.Else1) → brokenOf (c .before .before .before .before .args .self .exchange .counts) ≡ false
-not-broken c = sym (c .before .broken .ensures) ∙ c .if1 .left
+add-place : tie.Need-add-place
+add-place c = omega (arith, fits (c .before .before .before .before .before))
 
-send-all-requires : tie.Need-send-all-requires
-send-all-requires c κs = fits _ (not-broken (c .before))
+mul-book : tie.Need-mul-book
+mul-book c = omega (arith, fits (c .before .before .before .before .before))
 
-element-copy-out-e : tie.Need-element-copy-out-e
-element-copy-out-e c = search needs
+array-set-from-book : tie.Need-array-set-from-book
+array-set-from-book c = omega (arith, fits (c .before .before .before .before .before))
+
+add-counts : tie.Need-add-counts
+add-counts c = omega (arith, fits (c .before .before .before .before .before .before))
+
+add-counts-2 : tie.Need-add-counts-2
+add-counts-2 c = omega (arith, fits (c .before .before .before .before .before .before .before))
+
+array-read-pending-after : tie.Need-array-read-pending-after
+array-read-pending-after c = search needs
+
+mul-pending-after : tie.Need-mul-pending-after
+mul-pending-after c = search needs
+
+array-read-pending-after-2 : tie.Need-array-read-pending-after-2
+array-read-pending-after-2 c = search needs
+
+pending-after-requires : tie.Need-pending-after-requires
+pending-after-requires c κs = search needs
+
+mul-pending : tie.Need-mul-pending
+mul-pending c = search needs
+
+array-write-pending : tie.Need-array-write-pending
+array-write-pending c = search needs
+
+array-write-awaited : tie.Need-array-write-awaited
+array-write-awaited c = search needs
 
 returns-2 : tie.Need-returns-2
 returns-2 c =
-    let all = c .before .before in
-    sent _ _ _ _ _ (not-broken (all .before .before)) (all .before .one .ensures) (all .send-all .ensures)
+    let past = c .before .before .before .before .before .before .before .before in
+    let e = past .before .before .sound-event .ensures in
+    let z = past .if1 .left in
+    let a = past .before .before .before .before .before .before .before .before .before .before .before .before .before .args in
+    taken (a .self) (a .order) _ e z _ (takes-parts (a .self) (a .order) _ (sound (a .self) (a .order) _ e z .1) _ _ _ _ _ z refl refl (c .pending-after .ensures) refl refl)
 
 pub send-order-spec : {M : Type 1} → statement M
 send-order-spec =
     tie.close
     (tie.spec
-    broken-requires
-    event-requires
+    cast-at
+    mul-q
+    element-copy-out-q
+    element-copy-out-sound-event
+    mul-sound-event
+    element-copy-out-sound-event-2
+    sound-event-requires
     returns
-    one-requires
-    send-all-requires
-    element-copy-out-e
+    add-place
+    mul-book
+    array-set-from-book
+    add-counts
+    add-counts-2
+    array-read-pending-after
+    mul-pending-after
+    array-read-pending-after-2
+    pending-after-requires
+    mul-pending
+    array-write-pending
+    array-write-awaited
     returns-2)
