@@ -1,9 +1,9 @@
--- What a check leaves for an update's sends, and the three ends of an update: refused, 13, and sent. Assumes nothing.
+-- What a check leaves for an update's sends, and what an update comes to: refused, 13, or sent. Assumes nothing.
 use Prim.Native.Nat.{ℕ, zero, suc, _<_, _≤_}
 use native.Mathlib.Omega.{arith}
 use mathlib.Core.Bool.{Bool, true, false, not, _||_, cond}
 use mathlib.Core.Path.{_≡_, refl, sym, ap, subst, _∙_}
-use mathlib.Core.List.{List}
+use mathlib.Core.List.{List, []}
 use mathlib.Core.Option.{Option, none, some}
 use lib.Dec.{eqb, ltb}
 use lib.Ieee.{Float}
@@ -25,7 +25,7 @@ use Rattle.broker.specs.Cash.{cashOf}
 use Rattle.broker.specs.Liquidate.{failing, salesOf, liquidatedBy, succeeds}
 use Rattle.broker.specs.Check.{failedOf, shortfall, rescuedBy, checkNumber, bookedBy, checkedBy, Checks}
 use Rattle.broker.specs.Weigh.{weighed, planIn}
-use Rattle.broker.specs.Update.{updateNumber, planAfter, weighedBy, Updates}
+use Rattle.broker.specs.Update.{updateNumber, planAfter, weighedBy, updateRefused, Updates}
 use Rattle.broker.specs.declared.state.UistBroker.{UistBroker}
 use Rattle.broker.specs.declared.send.OrderEvent.{OrderEvent}
 use Rattle.broker.specs.declared.send.OrderList.{OrderList}
@@ -34,6 +34,7 @@ use Rattle.broker.specs.declared.check.Checked.{Checked}
 use Rattle.broker.specs.declared.weigh.Weights.{Weights}
 use Rattle.broker.specs.declared.weigh.Plan.{Plan}
 use Rattle.broker.specs.declared.update.Lengths.{Lengths}
+use Rattle.broker.specs.declared.update.Updated.{Updated}
 use Rattle.broker.proofs.Drawing.{unless-some, unless-none}
 use Rattle.broker.proofs.Sending.{sent-all-fits}
 use Rattle.broker.proofs.Settling.{number-none, ticked-fits}
@@ -104,21 +105,21 @@ module _ (b : UistBroker) (t f : Table) (w : Weights) (x : Lengths) where
   abbrev plan : Option (List Order)
   plan = planAfter (checkedBy b t f) (weighed w)
 
-  pub refused : (k : ℕ) (y : Checked) (events : List OrderEvent) → k ≡ drew → (k ≡ 0 → ⊥) → Checks b t f (x .log) y → events ≡ noEvents →
-      Updates b t f w x drew (record { broker = b; trades = y .trades; count = 0; first = 0; events = events; sent = 0; total = zero64; number = k })
-  refused k y events e d v p =
+  pub refused : (k : ℕ) (r : Updated) → k ≡ drew → (k ≡ 0 → ⊥) → r ≡ updateRefused b t k → Updates b t f w x drew r
+  refused k r e d p =
       let h : drew ≡ 0 → ⊥ = λ z. d (e ∙ z) in
-      record {
+      subst (Updates b t f w x drew) (sym p)
+      (record {
         before = refl;
         number = e ∙ sym (unless-some drew _ drew h);
         broker = sym (unless-some drew _ b h);
-        trades = v .trades;
+        trades = refl;
         count = sym (unless-some drew _ 0 h);
         first = sym (unless-some drew _ 0 h);
-        events = p ∙ sym (unless-some drew _ noEvents h);
+        events = sym (unless-some drew _ noEvents h);
         sent = sym (unless-some drew _ 0 h);
         total = sym (unless-some drew _ zero64 h);
-      }
+      })
 
   module _ (k : drew ≡ 0) (y : Checked) (v : Checks b t f (x .log) y) where
     no-number : y .number ≡ 0
@@ -141,12 +142,14 @@ module _ (b : UistBroker) (t f : Table) (w : Weights) (x : Lengths) where
       planned : (z : Bool) → p .found ≡ z → plan ≡ foundAs z
       planned z n = ap (λ (u : UistBroker). planAfter u (weighed w)) (sym checked) ∙ sym q ∙ ap foundAs n
 
-      -- 13: the check stands
-      pub stands : (events : List OrderEvent) → events ≡ noEvents → p .found ≡ false →
-          Updates b t f w x drew
-          (record { broker = y .broker; trades = y .trades; count = y .count; first = y .first; events = events; sent = 0; total = zero64; number = 13 })
-      unfolding weighedBy
-      stands events i n =
+      -- what an update answers past its refusals
+      abbrev acted : SentAll → ℕ → Float → ℕ → Updated
+      acted s m g n = record { broker = s .broker; trades = y .trades; count = y .count; first = y .first; events = s .events; sent = m; total = g; number = n }
+
+      -- 13: no order is sent, and the check stands
+      stands : p .found ≡ false → Updates b t f w x drew (acted (sendAllOf (y .broker) []) 0 zero64 13)
+      unfolding weighedBy sendAllOf eventsOf
+      stands n =
           let e = planned false n in
           record {
             before = refl;
@@ -155,22 +158,19 @@ module _ (b : UistBroker) (t f : Table) (w : Weights) (x : Lengths) where
             trades = v .trades;
             count = answered (y .count) _ (v .count);
             first = answered (y .first) _ (v .first);
-            events = i ∙ sym (when-none drew plan noEvents noEvents _ k e);
+            events = sym (when-none drew plan noEvents noEvents _ k e);
             sent = sym (when-none drew plan 0 0 _ k e);
             total = sym (when-none drew plan zero64 zero64 _ k e);
           }
 
       -- the plan's orders are sent
-      pub sends : p .found ≡ true → (s : SentAll) (m : ℕ) (g : Float) → s ≡ sendAllOf (y .broker) (listed (p .list)) → m ≡ length (listed (p .list)) →
-          g ≡ totalValue (moneyOf (y .broker .portfolio)) →
-          Updates b t f w x drew
-          (record { broker = s .broker; trades = y .trades; count = y .count; first = y .first; events = s .events; sent = m; total = g; number = 0 })
+      sends : p .found ≡ true → Updates b t f w x drew (acted (sendAllOf (y .broker) (listed (p .list))) (length (listed (p .list))) (totalValue (moneyOf (y .broker .portfolio))) 0)
       unfolding weighedBy sendAllOf
-      sends n s m g a d h =
+      sends n =
           let o = checkedBy b t f in
           let l = listed (p .list) in
           let e = planned true n in
-          let sent : s ≡ sendAllOf o l = a ∙ ap (λ (u : UistBroker). sendAllOf u l) checked in
+          let sent : sendAllOf (y .broker) l ≡ sendAllOf o l = ap (λ (u : UistBroker). sendAllOf u l) checked in
           record {
             before = refl;
             number = sym (when-some drew plan 13 drew (λ i. 0) k l e);
@@ -179,7 +179,21 @@ module _ (b : UistBroker) (t f : Table) (w : Weights) (x : Lengths) where
             count = answered (y .count) _ (v .count);
             first = answered (y .first) _ (v .first);
             events = ap (λ (u : SentAll). u .events) sent ∙ sym (when-some drew plan noEvents noEvents (λ i. over (eventsOf o i) noEvents) k l e);
-            sent = d ∙ sym (when-some drew plan 0 0 length k l e);
-            total = h ∙ ap (λ (u : UistBroker). totalValue (moneyOf (u .portfolio))) checked
+            sent = sym (when-some drew plan 0 0 length k l e);
+            total = ap (λ (u : UistBroker). totalValue (moneyOf (u .portfolio))) checked
                 ∙ sym (when-some drew plan zero64 zero64 (λ i. totalValue (moneyOf (o .portfolio))) k l e);
           }
+
+      -- both at once: what the calls of an update give
+      acts-by : (z : Bool) → p .found ≡ z → (l : List Order) → l ≡ given (foundAs z) [] (λ i. i) → (s : SentAll) (m : ℕ) (g : Float) (n : ℕ) → s ≡ sendAllOf (y .broker) l →
+          m ≡ length l → g ≡ cond z (totalValue (moneyOf (y .broker .portfolio))) zero64 → n ≡ cond z 0 13 → Updates b t f w x drew (acted s m g n)
+      acts-by true h l i s m g n a d o r =
+          let same : acted (sendAllOf (y .broker) (listed (p .list))) (length (listed (p .list))) (totalValue (moneyOf (y .broker .portfolio))) 0 ≡ acted s m g n = cc (i, a, d, o, r) in
+          subst (Updates b t f w x drew) same (sends h)
+      acts-by false h l i s m g n a d o r =
+          let same : acted (sendAllOf (y .broker) []) 0 zero64 13 ≡ acted s m g n = cc (i, a, d, o, r) in
+          subst (Updates b t f w x drew) same (stands h)
+
+      pub acts : (l : List Order) → l ≡ given (planIn p) [] (λ i. i) → (s : SentAll) (m : ℕ) (g : Float) (n : ℕ) → s ≡ sendAllOf (y .broker) l → m ≡ length l →
+          g ≡ cond (p .found) (totalValue (moneyOf (y .broker .portfolio))) zero64 → n ≡ cond (p .found) 0 13 → Updates b t f w x drew (acted s m g n)
+      acts l i s m g n a d o r = acts-by (p .found) refl l i s m g n a d o r

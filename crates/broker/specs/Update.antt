@@ -41,6 +41,10 @@ planAfter b w = planOf (moneyOf (b .portfolio)) w
 unfoldable pub weighedBy : UistBroker → List Weight → UistBroker
 weighedBy b w = given (planAfter b w) b (sentAll b)
 
+-- a refusal: the state as it was, and the trades of the check's tick
+abbrev pub updateRefused : UistBroker → Table → ℕ → Updated
+updateRefused b t n = record { broker = b; trades = tickOf (b .exchange) t .trades; count = 0; first = 0; events = noEvents; sent = 0; total = zero64; number = n }
+
 -- n is the number drawn before it acts; then 13 where there is no value to weigh, and the check stands
 pub record Updates (b : UistBroker) (t f : Table) (w : Weights) (x : Lengths) (n : ℕ) (r : Updated) : Type 0 where
   pub before : n ≡ updateNumber (b .exchange .counts) x (t .fault) (f .fault) (w .fault)

@@ -347,7 +347,7 @@ impl UistBroker {
         }
         let mut book = exchange.book;
         let mut pending = funds.pending;
-        let mut awaited = funds.awaited;
+        let mut expected = funds.awaited;
         let holding = funds.holding;
         let place = counts.resting + counts.waits;
         book[place] = Booked {
@@ -356,14 +356,14 @@ impl UistBroker {
         };
         counts.waits = counts.waits + 1;
         counts.taken = counts.taken + 1;
-        pending[at] = pending_after(order, awaited[at], pending[at]);
-        awaited[at] = true;
+        pending[at] = pending_after(order, expected[at], pending[at]);
+        expected[at] = true;
         let moved = Portfolio {
             latest: latest,
             funds: Funds {
                 holding: holding,
                 pending: pending,
-                awaited: awaited,
+                awaited: expected,
                 cash: funds.cash,
                 failed: funds.failed,
             },

@@ -1,12 +1,18 @@
 // An update: a check, the walk over weights, and the sends of its orders.
 ghost use mathlib.Core.Path.{_≡_};
+ghost use mathlib.Core.Bool.{cond};
+ghost use mathlib.Core.List.{[]};
 ghost use lib.ListN.{length};
+ghost use Rattle.lists.specs.Lists.{given};
+ghost use Rattle.market.specs.Orders.{zero64};
 ghost use Rattle.broker.specs.Send.{listed};
-ghost use Rattle.broker.specs.Update.{updateNumber, Updates};
+ghost use Rattle.broker.specs.Weigh.{planIn};
+ghost use Rattle.broker.specs.Update.{updateNumber, updateRefused, Updates};
 use crate::send;
 use crate::send::OrderEvent;
 use crate::send::OrderList;
 use crate::state::UistBroker;
+use crate::weigh::Plan;
 use crate::weigh::Weights;
 use exchange::state::Counts;
 use market::table::Table;
@@ -52,6 +58,17 @@ fn update_fault(counts: Counts, x: Lengths, tradable: u32, fetched: u32, weights
     if fetched != 0 { fetched } else { weights }
 }
 
+// The orders that a plan sends: none where there is no value to weigh.
+fn planned(plan: Plan) -> OrderList
+    ensures { λ r. ⌜ listed r ≡ given (planIn plan) [] (λ l. l) ⌝ }
+{
+    let mut list = plan.list;
+    if !plan.found {
+        list.count = 0;
+    }
+    list
+}
+
 // How many orders a list holds.
 fn listed_count(list: OrderList) -> usize
     ensures { λ r. ⌜ r ≡ length (listed list) ⌝ }
@@ -59,8 +76,47 @@ fn listed_count(list: OrderList) -> usize
     if list.count < 256 { list.count } else { 256 }
 }
 
+fn total_if(found: bool, total: f64) -> f64
+    ensures { λ r. ⌜ r ≡ cond found total zero64 ⌝ }
+{
+    if found { total } else { 0.0 }
+}
+
+// 13 where there is no value to weigh.
+fn plan_fault(found: bool) -> u32
+    ensures { λ r. ⌜ r ≡ cond found 0 13 ⌝ }
+{
+    if found { 0 } else { 13 }
+}
+
 impl UistBroker {
-    // An update on tables and weights that were read.
+    // Nothing is changed; the trades are those of the check's tick.
+    fn refused_update(
+        self,
+        tradable: Table,
+        fetched: Table,
+        log_length: usize,
+        number: u32,
+    ) -> Updated
+        ensures { λ r. ⌜ r ≡ updateRefused self tradable number ⌝ }
+    {
+        let checked = self.check(tradable, fetched, log_length);
+        let trades = checked.trades;
+        let events = send::no_events();
+        Updated {
+            broker: self,
+            trades: trades,
+            count: 0,
+            first: 0,
+            events: events,
+            sent: 0,
+            total: 0.0,
+            number: number,
+        }
+    }
+
+    // An update on tables and weights that were read. Past the refusals there is one way through, with
+    // 13 or not: a return between would cost copies of all the state.
     pub fn update(self, tradable: Table, fetched: Table, weights: Weights, x: Lengths) -> Updated
         ensures { λ r. ⌜ Updates self tradable fetched weights x (updateNumber (self .exchange .counts) x (tradable .fault) (fetched .fault) (weights .fault)) r ⌝ }
     {
@@ -72,37 +128,15 @@ impl UistBroker {
             fetched.fault,
             weights.fault,
         );
-        let events = send::no_events();
+        if number != 0 {
+            return self.refused_update(tradable, fetched, x.log, number);
+        }
         let checked = self.check(tradable, fetched, x.log);
         let trades = checked.trades;
-        if number != 0 {
-            return Updated {
-                broker: self,
-                trades: trades,
-                count: 0,
-                first: 0,
-                events: events,
-                sent: 0,
-                total: 0.0,
-                number: number,
-            };
-        }
         let b = checked.broker;
         let portfolio = b.portfolio;
         let plan = portfolio.diff_against_target_weights(weights);
-        if !plan.found {
-            return Updated {
-                broker: b,
-                trades: trades,
-                count: checked.count,
-                first: checked.first,
-                events: events,
-                sent: 0,
-                total: 0.0,
-                number: 13,
-            };
-        }
-        let list = plan.list;
+        let list = planned(plan);
         let sent = b.send_all(list);
         let moved = sent.broker;
         let written = sent.events;
@@ -113,8 +147,8 @@ impl UistBroker {
             first: checked.first,
             events: written,
             sent: listed_count(list),
-            total: portfolio.get_total_value(),
-            number: 0,
+            total: total_if(plan.found, portfolio.get_total_value()),
+            number: plan_fault(plan.found),
         }
     }
 }

@@ -114,8 +114,8 @@ mul-pending c = search needs
 array-write-pending : tie.Need-array-write-pending
 array-write-pending c = search needs
 
-array-write-awaited : tie.Need-array-write-awaited
-array-write-awaited c = search needs
+array-write-expected : tie.Need-array-write-expected
+array-write-expected c = search needs
 
 returns-2 : tie.Need-returns-2
 returns-2 c =
@@ -148,5 +148,5 @@ send-order-spec =
     pending-after-requires
     mul-pending
     array-write-pending
-    array-write-awaited
+    array-write-expected
     returns-2)
