@@ -132,7 +132,6 @@ impl UistBroker {
             return self.refused_update(tradable, fetched, x.log, number);
         }
         let checked = self.check(tradable, fetched, x.log);
-        let trades = checked.trades;
         let b = checked.broker;
         let portfolio = b.portfolio;
         let plan = portfolio.diff_against_target_weights(weights);
@@ -140,6 +139,7 @@ impl UistBroker {
         let sent = b.send_all(list);
         let moved = sent.broker;
         let written = sent.events;
+        let trades = checked.trades;
         Updated {
             broker: moved,
             trades: trades,

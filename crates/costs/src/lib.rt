@@ -115,12 +115,8 @@ fn places(count: usize) -> usize
     if count < 16 { count } else { 16 }
 }
 
-pub fn trade_impact_total(
-    costs: TradeCosts,
-    gross_budget: f64,
-    gross_price: f64,
-    is_buy: bool,
-) -> Impact
+// The costs one after the other.
+fn impact_in_turn(costs: TradeCosts, gross_budget: f64, gross_price: f64, is_buy: bool) -> Impact
     ensures { λ r. ⌜ r ≡ tradeImpactTotal (costsOf costs) «gross_budget» «gross_price» «is_buy» ⌝ }
 {
     let mut net = Impact {
@@ -136,6 +132,24 @@ pub fn trade_impact_total(
         i = i + 1;
     }
     net
+}
+
+// Without costs nothing is gone over, nor copied: this is asked for each position.
+pub fn trade_impact_total(
+    costs: TradeCosts,
+    gross_budget: f64,
+    gross_price: f64,
+    is_buy: bool,
+) -> Impact
+    ensures { λ r. ⌜ r ≡ tradeImpactTotal (costsOf costs) «gross_budget» «gross_price» «is_buy» ⌝ }
+{
+    if costs.count == 0 {
+        return Impact {
+            budget: gross_budget,
+            price: gross_price,
+        };
+    }
+    impact_in_turn(costs, gross_budget, gross_price, is_buy)
 }
 
 pub fn calculate_trade_costs(costs: TradeCosts, quantity: f64, value: f64) -> f64

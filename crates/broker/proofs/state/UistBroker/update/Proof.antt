@@ -34,7 +34,7 @@ none-drawn c = sym (c .before .update-fault .ensures) ∙ c .if1 .left
 
 send-all-requires : tie.Need-send-all-requires
 send-all-requires c κs =
-    let y = c .before .before .before .before .before in
+    let y = c .before .before .before .before in
     let a = y .before .before .before .before .args in
     fits (a .self) (a .tradable) (a .fetched) (a .weights) (a .x) (none-drawn (y .before)) _ (y .check .ensures)
 
@@ -52,9 +52,9 @@ plan-fault-requires c κs = search needs
 
 returns-2 : tie.Need-returns-2
 returns-2 c =
-    let s = c .before .before .before .before .before .before in
+    let s = c .before .before .before .before .before .before .before in
     let p = s .before .before .diff-against-target-weights in
-    let y = s .before .before .before .before .before .before in
+    let y = s .before .before .before .before .before in
     let total = c .before .total-if .ensures ∙ ap (λ (g : Float). cond (p .result .found) g zero64) (c .before .before .get-total-value .ensures) in
     acts _ _ _ _ _ (none-drawn (y .before)) _ (y .check .ensures) (p .result) (p .ensures) _ (s .before .planned .ensures) (s .send-all .result) _ _ _ (s .send-all .ensures)
     (c .before .before .before .listed-count .ensures) total (c .plan-fault .ensures)
