@@ -16,6 +16,24 @@ use Rattle.market.specs.declared.trade.Fill.the-variants.{Traded, Rests}
 abbrev pub blankTrade : Trade
 blankTrade = record { symbol = 0; typ = Buy; value = zero64; quantity = zero64; date = pos 0 }
 
+-- the kinds that trade on any quote
+abbrev pub isMarket : OrderType → Bool
+isMarket MarketSell = true
+isMarket MarketBuy = true
+isMarket LimitSell = false
+isMarket LimitBuy = false
+isMarket StopSell = false
+isMarket StopBuy = false
+
+-- the kinds that wait for a rise of the quote to their price
+abbrev pub rises : OrderType → Bool
+rises MarketSell = false
+rises MarketBuy = false
+rises LimitSell = true
+rises LimitBuy = false
+rises StopSell = false
+rises StopBuy = true
+
 -- market orders trade; limit buy if price >= ask, limit sell if price <= bid, stop buy if price <= ask, stop sell if price >= bid;
 -- without a price, limit sell and stop buy trade, the other two never
 abbrev pub meetsKind : OrderType → Bool → Float → Float → Float → Bool

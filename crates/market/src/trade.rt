@@ -1,6 +1,8 @@
 // Trades, and the rule by which an order trades on a quote.
 ghost use mathlib.Core.Path.{_≡_};
-ghost use Rattle.market.specs.Trades.{blankTrade, meetsRule, tradeOf, rowIf, tradeOn, tradeIn};
+ghost use mathlib.Core.Bool.{cond};
+ghost use Rattle.market.specs.Orders.{isSell};
+ghost use Rattle.market.specs.Trades.{blankTrade, isMarket, rises, meetsRule, tradeOf, rowIf, tradeOn, tradeIn};
 use crate::order::Order;
 use crate::order::OrderType;
 use crate::quote::Quote;
@@ -24,19 +26,54 @@ pub enum Fill {
     Rests,
 }
 
-// Does this order trade on this quote?
+fn is_market(k: OrderType) -> bool
+    ensures { λ r. ⌜ r ≡ isMarket k ⌝ }
+{
+    match k {
+        OrderType::MarketSell => true,
+        OrderType::MarketBuy => true,
+        OrderType::LimitSell => false,
+        OrderType::LimitBuy => false,
+        OrderType::StopSell => false,
+        OrderType::StopBuy => false,
+    }
+}
+
+// Does a limit or stop order wait for the quote to rise to its price? If not, for it to fall.
+fn rises(k: OrderType) -> bool
+    ensures { λ r. ⌜ r ≡ rises k ⌝ }
+{
+    match k {
+        OrderType::MarketSell => false,
+        OrderType::MarketBuy => false,
+        OrderType::LimitSell => true,
+        OrderType::LimitBuy => false,
+        OrderType::StopSell => false,
+        OrderType::StopBuy => true,
+    }
+}
+
+// A sell trades at the bid, a buy at the ask.
+fn price_at(o: Order, q: Quote) -> f64
+    ensures { λ r. ⌜ r ≡ cond (isSell (o .kind)) (q .bid) (q .ask) ⌝ }
+{
+    if o.is_sell() { q.bid } else { q.ask }
+}
+
+// Does this order trade on this quote? Without a price, what waits for a rise trades, the others
+// never. (One match with the rules in its arms keeps LLVM from joining the copies of a tick's arrays.)
 fn meets_rule(o: Order, q: Quote) -> bool
     ensures { λ r. ⌜ r ≡ meetsRule o q ⌝ }
 {
     let k = o.kind;
-    match k {
-        OrderType::MarketSell => true,
-        OrderType::MarketBuy => true,
-        OrderType::LimitSell => if o.priced { o.price <= q.bid } else { true },
-        OrderType::LimitBuy => if o.priced { o.price >= q.ask } else { false },
-        OrderType::StopSell => if o.priced { o.price >= q.bid } else { false },
-        OrderType::StopBuy => if o.priced { o.price <= q.ask } else { true },
+    if is_market(k) {
+        return true;
     }
+    let at = price_at(o, q);
+    if rises(k) {
+        return if o.priced { o.price <= at } else { true };
+    }
+    if o.priced { o.price >= at } else { false }
 }
 
 impl Trade {
