@@ -28,7 +28,10 @@ impl Table {
     pub fn of(rows: [Quote; 257], n: usize) -> Table
         ensures { λ r. ⌜ r ≡ tableOf (take n rows) ⌝ }
     {
-        let mut t = Table::empty();
+        let blank = Quote::blank();
+        let mut kept = [blank; 256];
+        let mut present = [false; 256];
+        let mut fault: u32 = 0;
         let mut least: u32 = 0;
         let mut i: usize = 0;
         while i < 257 {
@@ -36,18 +39,21 @@ impl Table {
                 break;
             }
             let q = rows[i];
-            let fault = q.fault(least);
+            fault = q.fault(least);
             if fault != 0 {
-                t.fault = fault;
                 break;
             }
             let symbol = q.symbol;
             let at = symbol as usize;
-            t.rows[at] = q;
-            t.present[at] = true;
+            kept[at] = q;
+            present[at] = true;
             least = symbol + 1;
             i = i + 1;
         }
-        t
+        Table {
+            present: present,
+            rows: kept,
+            fault: fault,
+        }
     }
 }
