@@ -22,6 +22,7 @@ use Rattle.rules.specs.Money.{unlessZero, effect}
 use Rattle.rules.specs.Sends.{sendTestsAt, sendTests}
 use Rattle.broker.specs.State.{pendingIf, moneyOf}
 use Rattle.broker.specs.declared.state.Funds.{Funds}
+use Rattle.broker.specs.declared.state.Portfolio.{Portfolio}
 use Rattle.broker.specs.declared.state.UistBroker.{UistBroker}
 use Rattle.broker.specs.declared.send.OrderEvent.{OrderEvent}
 use Rattle.broker.specs.declared.send.Sent.{Sent}
@@ -63,6 +64,15 @@ expecting f o =
       awaited = set (f .awaited) s true;
       cash = f .cash;
       failed = f .failed;
+    }
+
+-- a portfolio with other pending quantities
+abbrev pub withPending : Portfolio → List Float → List Bool → Portfolio
+withPending p pending awaited =
+    record {
+      latest = p .latest;
+      funds = record { holding = p .funds .holding; pending = pending; awaited = awaited; cash = p .funds .cash; failed = p .funds .failed };
+      costs = p .costs;
     }
 
 abbrev pub withFunds : UistBroker → Funds → UistBroker

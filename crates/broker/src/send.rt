@@ -6,7 +6,7 @@ ghost use Rattle.market.specs.Trades.{rowIf};
 ghost use Rattle.exchange.specs.State.{brokenOf};
 ghost use Rattle.rules.specs.Money.{unlessZero};
 ghost use Rattle.rules.specs.Sends.{isMarket, poor, short};
-ghost use Rattle.broker.specs.Send.{quoteIn, eventOf, eventAt, pendingAfter, noEvents, noOrders, listed, SendsFit, sentAll, sendAllOf, sendOf, insertOf, deleteOf};
+ghost use Rattle.broker.specs.Send.{quoteIn, eventOf, eventAt, pendingAfter, withPending, noEvents, noOrders, listed, SendsFit, sentAll, sendAllOf, sendOf, insertOf, deleteOf};
 use crate::state::Funds;
 use crate::state::Portfolio;
 use crate::state::UistBroker;
@@ -167,6 +167,28 @@ fn pending_after(o: Order, awaited: bool, pending: f64) -> f64
     }
 }
 
+// A portfolio with other pending quantities.
+fn expecting(p: Portfolio, pending: [f64; 256], awaited: [bool; 256]) -> Portfolio
+    ensures { λ r. ⌜ r ≡ withPending p pending awaited ⌝ }
+{
+    let latest = p.latest;
+    let f = p.funds;
+    let holding = f.holding;
+    let costs = p.costs;
+    let funds = Funds {
+        holding: holding,
+        pending: pending,
+        awaited: awaited,
+        cash: f.cash,
+        failed: f.failed,
+    };
+    Portfolio {
+        latest: latest,
+        funds: funds,
+        costs: costs,
+    }
+}
+
 pub(crate) fn no_events() -> [OrderEvent; 256]
     ensures { λ r. ⌜ r ≡ noEvents ⌝ }
 {
@@ -201,7 +223,6 @@ impl UistBroker {
         let portfolio = self.portfolio;
         let latest = portfolio.latest;
         let funds = portfolio.funds;
-        let costs = portfolio.costs;
         let mut book = exchange.book;
         let mut counts = exchange.counts;
         let mut pending = funds.pending;
@@ -235,18 +256,7 @@ impl UistBroker {
             events[i] = e;
             i = i + 1;
         }
-        let holding = funds.holding;
-        let moved = Portfolio {
-            latest: latest,
-            funds: Funds {
-                holding: holding,
-                pending: pending,
-                awaited: awaited,
-                cash: funds.cash,
-                failed: funds.failed,
-            },
-            costs: costs,
-        };
+        let moved = expecting(portfolio, pending, awaited);
         SentAll {
             broker: UistBroker {
                 exchange: UistV1 {
@@ -269,7 +279,6 @@ impl UistBroker {
         let portfolio = self.portfolio;
         let latest = portfolio.latest;
         let funds = portfolio.funds;
-        let costs = portfolio.costs;
         let mut book = exchange.book;
         let mut counts = exchange.counts;
         let mut pending = funds.pending;
@@ -301,18 +310,7 @@ impl UistBroker {
             }
             i = i + 1;
         }
-        let holding = funds.holding;
-        let moved = Portfolio {
-            latest: latest,
-            funds: Funds {
-                holding: holding,
-                pending: pending,
-                awaited: awaited,
-                cash: funds.cash,
-                failed: funds.failed,
-            },
-            costs: costs,
-        };
+        let moved = expecting(portfolio, pending, awaited);
         UistBroker {
             exchange: UistV1 {
                 book: book,
@@ -329,7 +327,6 @@ impl UistBroker {
         let portfolio = self.portfolio;
         let latest = portfolio.latest;
         let funds = portfolio.funds;
-        let costs = portfolio.costs;
         let mut counts = exchange.counts;
         let at = (order.symbol % 256) as usize;
         let q = latest.rows[at];
@@ -348,7 +345,6 @@ impl UistBroker {
         let mut book = exchange.book;
         let mut pending = funds.pending;
         let mut expected = funds.awaited;
-        let holding = funds.holding;
         let place = counts.resting + counts.waits;
         book[place] = Booked {
             number: 0,
@@ -358,17 +354,7 @@ impl UistBroker {
         counts.taken = counts.taken + 1;
         pending[at] = pending_after(order, expected[at], pending[at]);
         expected[at] = true;
-        let moved = Portfolio {
-            latest: latest,
-            funds: Funds {
-                holding: holding,
-                pending: pending,
-                awaited: expected,
-                cash: funds.cash,
-                failed: funds.failed,
-            },
-            costs: costs,
-        };
+        let moved = expecting(portfolio, pending, expected);
         Sent {
             broker: UistBroker {
                 exchange: UistV1 {

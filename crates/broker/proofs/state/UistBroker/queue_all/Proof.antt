@@ -6,6 +6,7 @@ use mathlib.Core.Logic.{⊎-elim}
 use native.Mathlib.Omega.{arith}
 use lib.ListN.{length-map, length-take}
 use borrow.Author.Needs.{needs}
+use Rattle.broker.specs.declared.state.Portfolio.{Portfolio}
 use Rattle.broker.specs.declared.state.UistBroker.{UistBroker}
 use Rattle.broker.proofs.Sending.{OneFits, brokerWith, event-for, fits-here, takes-parts, passes-parts, Inv, starts, sends-one, all-sent}
 use Rattle.market.specs.declared.order.Order.{Order}
@@ -20,16 +21,16 @@ unfolding sendAllOf
 told b l = refl
 
 abbrev Inv-loop : tie.InvT-loop
-Inv-loop list latest funds costs book₀ counts₀ pending₀ awaited₀ i₀ book counts pending awaited i =
+Inv-loop list portfolio latest funds book₀ counts₀ pending₀ awaited₀ i₀ book counts pending awaited i =
     (events : List OrderEvent)
-    × Inv (brokerWith latest costs funds book₀ counts₀ pending₀ awaited₀) list (brokerWith latest costs funds book counts pending awaited) events i
+    × Inv (brokerWith latest (portfolio .costs) funds book₀ counts₀ pending₀ awaited₀) list (brokerWith latest (portfolio .costs) funds book counts pending awaited) events i
 
 abbrev μ-loop : tie.MeasureT-loop
-μ-loop list latest funds costs book₀ counts₀ pending₀ awaited₀ i₀ book counts pending awaited i = 256 - i
+μ-loop list portfolio latest funds book₀ counts₀ pending₀ awaited₀ i₀ book counts pending awaited i = 256 - i
 
 loop-holds : tie.Need-loop-holds Inv-loop μ-loop
 loop-holds c =
-    let start = c .before .before .before .before .before .before .before .before .before in
+    let start = c .before .before .before .before .before .before .before .before in
     (_, starts _ (start .args .t2) _ (sym (length-map (start .args .t2 .orders) _) ∙ start .good .1 .0 .1 .1 .0 .1 .0 .1) (start .pre) refl)
 
 mul-o : tie.Need-mul-o Inv-loop μ-loop
@@ -62,7 +63,7 @@ send-event-requires c κs = search needs
 -- the broker as a turn finds it
 abbrev present : (c : tie.At-loop Inv-loop μ-loop) → UistBroker
 present c =
-    let portfolio = c .before .before .before .before .before .before .before .before .before .before .args .self .portfolio in
+    let portfolio = c .before .before .before .before .before .before .before .before .before .args .self .portfolio in
     brokerWith (portfolio .latest) (portfolio .costs) (portfolio .funds) (c .loop .book) (c .loop .counts) (c .loop .pending) (c .loop .awaited)
 
 -- the order is taken only where one more fits
@@ -125,11 +126,15 @@ loop-again c =
           (⊎-elim (λ w. takes-parts _ _ _ e _ _ _ _ _ (w .0 .taken) (w .5) (w .6) (w .4 .ensures) (w .7) (w .8)) (λ w. passes-parts _ _ _ e _ _ _ _ (w .0 .left) (w .1) (w .2) (w .3) (w .4)) (c .if2 .came)),
     )
 
+expecting-requires : tie.Need-expecting-requires Inv-loop μ-loop
+expecting-requires c κs = search needs
+
 returns : tie.Need-returns Inv-loop μ-loop
 returns c =
     let v = c .before .before .loop .inv .1 in
-    let list = c .before .before .before .before .before .before .before .before .before .before .before .before .args .t2 in
-    ap (λ (x : SentAll). x .broker)
+    let list = c .before .before .before .before .before .before .before .before .before .before .before .args .t2 in
+    ap (λ (p : Portfolio). record { exchange = record { book = c .before .before .loop .book; counts = c .before .before .loop .counts }; portfolio = p }) (c .expecting .ensures)
+    ∙ ap (λ (x : SentAll). x .broker)
     (all-sent _ _ _ _ _ v
     (⊎-elim (λ w. omega (arith, length-take (list .count) (list .orders), v .long, w .left)) (λ w. omega (arith, length-take (list .count) (list .orders), w .1 .taken)) (c .before .loop-test .came))) ∙ told _ _
 
@@ -164,4 +169,5 @@ queue-all-spec =
     add-i
     loop-less
     loop-again
+    expecting-requires
     returns)

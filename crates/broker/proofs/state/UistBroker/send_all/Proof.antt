@@ -5,24 +5,25 @@ use mathlib.Core.Logic.{⊎-elim}
 use native.Mathlib.Omega.{arith}
 use lib.ListN.{length-map, length-take}
 use borrow.Author.Needs.{needs}
+use Rattle.broker.specs.declared.state.Portfolio.{Portfolio}
 use Rattle.broker.specs.declared.state.UistBroker.{UistBroker}
 use Rattle.broker.proofs.Sending.{OneFits, brokerWith, event-for, fits-here, takes-parts, passes-parts, Inv, starts, sends-one, all-sent}
 use Rattle.broker.proofs.state.UistBroker.send_all.Statement.{statement}
 use Rattle.broker.proofs.state.UistBroker.send_all.Tie as tie
 
 abbrev Inv-loop : tie.InvT-loop
-Inv-loop list latest funds costs book₀ counts₀ pending₀ awaited₀ events₀ i₀ book counts pending awaited events i =
-    Inv (brokerWith latest costs funds book₀ counts₀ pending₀ awaited₀) list (brokerWith latest costs funds book counts pending awaited) events i
+Inv-loop list portfolio latest funds book₀ counts₀ pending₀ awaited₀ events₀ i₀ book counts pending awaited events i =
+    Inv (brokerWith latest (portfolio .costs) funds book₀ counts₀ pending₀ awaited₀) list (brokerWith latest (portfolio .costs) funds book counts pending awaited) events i
 
 abbrev μ-loop : tie.MeasureT-loop
-μ-loop list latest funds costs book₀ counts₀ pending₀ awaited₀ events₀ i₀ book counts pending awaited events i = 256 - i
+μ-loop list portfolio latest funds book₀ counts₀ pending₀ awaited₀ events₀ i₀ book counts pending awaited events i = 256 - i
 
 no-events-requires : tie.Need-no-events-requires Inv-loop μ-loop
 no-events-requires c κs = search needs
 
 loop-holds : tie.Need-loop-holds Inv-loop μ-loop
 loop-holds c =
-    let start = c .before .before .before .before .before .before .before .before .before .before in
+    let start = c .before .before .before .before .before .before .before .before .before in
     starts _ (start .args .t2) _ (sym (length-map (start .args .t2 .orders) _) ∙ start .good .1 .0 .1 .1 .0 .1 .0 .1) (start .pre) (c .no-events .ensures)
 
 mul-o : tie.Need-mul-o Inv-loop μ-loop
@@ -55,7 +56,7 @@ send-event-requires c κs = search needs
 -- the broker as a turn finds it
 abbrev present : (c : tie.At-loop Inv-loop μ-loop) → UistBroker
 present c =
-    let portfolio = c .before .before .before .before .before .before .before .before .before .before .before .args .self .portfolio in
+    let portfolio = c .before .before .before .before .before .before .before .before .before .before .args .self .portfolio in
     brokerWith (portfolio .latest) (portfolio .costs) (portfolio .funds) (c .loop .book) (c .loop .counts) (c .loop .pending) (c .loop .awaited)
 
 -- the order is taken only where one more fits
@@ -122,11 +123,16 @@ loop-again c =
     sends-one _ _ _ _ _ (turn .loop .inv) (more .before .loop-test .taken) (more .if1 .left) _ _ (event-for _ _ _ e)
     (⊎-elim (λ w. takes-parts _ _ _ e _ _ _ _ _ (w .0 .taken) (w .5) (w .6) (w .4 .ensures) (w .7) (w .8)) (λ w. passes-parts _ _ _ e _ _ _ _ (w .0 .left) (w .1) (w .2) (w .3) (w .4)) (c .if2 .came))
 
+expecting-requires : tie.Need-expecting-requires Inv-loop μ-loop
+expecting-requires c κs = search needs
+
 returns : tie.Need-returns Inv-loop μ-loop
 returns c =
     let v = c .before .before .loop .inv in
-    let list = c .before .before .before .before .before .before .before .before .before .before .before .before .before .args .t2 in
-    all-sent _ _ _ _ _ v
+    let list = c .before .before .before .before .before .before .before .before .before .before .before .before .args .t2 in
+    let l = c .before .before .loop in
+    ap (λ (p : Portfolio). record { broker = record { exchange = record { book = l .book; counts = l .counts }; portfolio = p }; events = l .events }) (c .expecting .ensures)
+    ∙ all-sent _ _ _ _ _ v
     (⊎-elim (λ w. omega (arith, length-take (list .count) (list .orders), v .long, w .left)) (λ w. omega (arith, length-take (list .count) (list .orders), w .1 .taken)) (c .before .loop-test .came))
 
 pub send-all-spec : {M : Type 1} → statement M
@@ -163,4 +169,5 @@ send-all-spec =
     add-i
     loop-less
     loop-again
+    expecting-requires
     returns)

@@ -6,9 +6,11 @@ use borrow.Author.Needs.{needs}
 use Prim.Native.Nat.{_%_}
 use Rattle.market.specs.declared.order.Order.{Order}
 use Rattle.exchange.specs.State.{brokenOf}
+use Rattle.exchange.specs.Insert.{joined}
 use Rattle.exchange.specs.declared.state.Counts.{Counts}
 use Rattle.exchange.proofs.Counting.{sound-facts}
 use Rattle.broker.specs.Send.{eventOf, eventAt, eventFor, sentOne, SendsFit, sendOf}
+use Rattle.broker.specs.declared.state.Portfolio.{Portfolio}
 use Rattle.broker.specs.declared.state.UistBroker.{UistBroker}
 use Rattle.broker.specs.declared.send.OrderEvent.{OrderEvent}
 use Rattle.broker.specs.declared.send.Sent.{Sent}
@@ -76,25 +78,25 @@ sound-event-requires c κs = search needs
 returns : tie.Need-returns
 returns c = refused _ _ _ (c .before .before .sound-event .ensures) (c .if1 .taken)
 
-fits : (c : tie.Else1) → OneFits (c .before .before .before .before .before .before .before .before .before .before .before .before .before .args .self .exchange .counts)
+fits : (c : tie.Else1) → OneFits (c .before .before .before .before .before .before .before .before .before .before .before .before .args .self .exchange .counts)
 fits c =
-    let a = c .before .before .before .before .before .before .before .before .before .before .before .before .before .args in
+    let a = c .before .before .before .before .before .before .before .before .before .before .before .before .args in
     one-fits (a .self) (a .order) _ (c .before .before .sound-event .ensures) (c .if1 .left)
 
 add-place : tie.Need-add-place
-add-place c = omega (arith, fits (c .before .before .before .before .before))
+add-place c = omega (arith, fits (c .before .before .before .before))
 
 mul-book : tie.Need-mul-book
-mul-book c = omega (arith, fits (c .before .before .before .before .before))
+mul-book c = omega (arith, fits (c .before .before .before .before))
 
 array-set-from-book : tie.Need-array-set-from-book
-array-set-from-book c = omega (arith, fits (c .before .before .before .before .before))
+array-set-from-book c = omega (arith, fits (c .before .before .before .before))
 
 add-counts : tie.Need-add-counts
-add-counts c = omega (arith, fits (c .before .before .before .before .before .before))
+add-counts c = omega (arith, fits (c .before .before .before .before .before))
 
 add-counts-2 : tie.Need-add-counts-2
-add-counts-2 c = omega (arith, fits (c .before .before .before .before .before .before .before))
+add-counts-2 c = omega (arith, fits (c .before .before .before .before .before .before))
 
 array-read-pending-after : tie.Need-array-read-pending-after
 array-read-pending-after c = search needs
@@ -117,13 +119,18 @@ array-write-pending c = search needs
 array-write-expected : tie.Need-array-write-expected
 array-write-expected c = search needs
 
+expecting-requires : tie.Need-expecting-requires
+expecting-requires c κs = search needs
+
 returns-2 : tie.Need-returns-2
 returns-2 c =
-    let past = c .before .before .before .before .before .before .before .before in
+    let m = c .before in
+    let past = m .before .before .before .before .before .before .before in
     let e = past .before .before .sound-event .ensures in
     let z = past .if1 .left in
-    let a = past .before .before .before .before .before .before .before .before .before .before .before .before .before .args in
-    taken (a .self) (a .order) _ e z _ (takes-parts (a .self) (a .order) _ (sound (a .self) (a .order) _ e z .1) _ _ _ _ _ z refl refl (c .pending-after .ensures) refl refl)
+    let a = past .before .before .before .before .before .before .before .before .before .before .before .before .args in
+    let sent = takes-parts (a .self) (a .order) _ (sound (a .self) (a .order) _ e z .1) _ _ _ _ _ z refl refl (m .pending-after .ensures) refl refl in
+    taken (a .self) (a .order) _ e z _ (ap (λ (p : Portfolio). record { exchange = joined (a .self .exchange) (a .order); portfolio = p }) (c .expecting .ensures) ∙ sent)
 
 pub send-order-spec : {M : Type 1} → statement M
 send-order-spec =
@@ -149,4 +156,5 @@ send-order-spec =
     mul-pending
     array-write-pending
     array-write-expected
+    expecting-requires
     returns-2)
