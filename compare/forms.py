@@ -69,8 +69,8 @@ def are_lists(words, lists):
 
 
 def passed_over(line):
-    """A line without a word, and one whose first byte is #, has no answer."""
-    return line.strip(b" ") == b"" or line.startswith(b"#")
+    """A line without a word, and one whose first byte is #, has no answer, unless it is too long."""
+    return len(line) <= LINE and (line.strip(b" ") == b"" or line.startswith(b"#"))
 
 
 def malformed(line, rows):

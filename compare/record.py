@@ -23,7 +23,7 @@ OUTPUT = os.path.join(ROOT, "crates", "rehearse", "stdout")
 PAPER = os.path.join(ROOT, "docs", "RECORDED.md")
 HEADING = "## Which line draws which number\n"
 # The rows of the log of a program that is started without arguments.
-LOG_ROWS = 131072
+LOG_ROWS = 65536
 # The Rust's driver answers these by itself, also where the comparison has stopped.
 OWN_WORDS = ("quiet", "full")
 

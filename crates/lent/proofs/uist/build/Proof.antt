@@ -1,31 +1,21 @@
 -- `build`: the table is read, and the log's length goes to `UistBroker::build`. Assumes nothing.
-use Rattle.walks.proofs.Walk.{Base, R, shrTy, pV, rV, hasV, freeV, rd, to, fr, gn, loc, part, shr-len, drop, sets, returns, Callee, Knows, _&_, no-more, int, shr, by-val, by-num, by-slice, calls, Contract, callee, Task, task, Derives, Owes, runs, world, under, closes, knows, _≡_, refl, _∙_, ap, false, [], _∷_, length, w64, named, field, pShrS, Sc, sInt}
+use Rattle.walks.proofs.Walk.{Base, shrTy, hasV, freeV, rd, to, fr, gn, loc, part, shr-len, drop, sets, returns, Callee, Knows, _&_, no-more, int, shr, by-val, by-num, by-slice, calls, callee, Task, task, Derives, Owes, runs, world, under, closes, knows, refl, _∙_, ap, [], _∷_, length, w64, named, field, Sc, sInt}
 use Rattle.market.specs.declared.table.Table.{Table}
 use Rattle.broker.specs.Build.{buildOf}
-use Rattle.broker.specs.Lent.{buildFor}
 use Rattle.lent.proofs.Rows.{quote, table, trade}
-use Rattle.lent.proofs.UistRows.{trade-costs, built}
+use Rattle.lent.proofs.UistRows.{trade-costs}
 use Rattle.lent.proofs.UistCallees as Callees
 use Rattle.lent.proofs.UistCallees.{knows-build}
 use Rattle.lent.proofs.Contracts as Contracts
 use Rattle.lent.proofs.tables.read_table.Symbol as read-table-Symbol
 use Rattle.lent.proofs.tables.read_table.Met as read-table-Met
+use Rattle.lent.proofs.Public.{build as contract}
 use Rattle.lent.proofs.uist.build.Key.{name}
 use Rattle.lent.proofs.uist.build.Code as code
 use Rattle.lent.proofs.uist.build.Statement.{statement}
 
 abbrev U : Sc
 U = sInt w64
-
-abbrev contract : Contract
-contract = record {
-  n = 2;
-  ps = pV trade-costs ∷ pShrS (R quote) 0 tt ∷ pShrS (R trade) 1 tt ∷ [];
-  r = rV built;
-  requires = false;
-  Pre = λ κs a. Unit {0};
-  Post = λ κs a z e. z ≡ buildFor (a .0) (a .1 .0 .now) (a .1 .1 .0 .now);
-}
 
 abbrev read-table : Callee
 read-table = callee Contracts.read-table "lent::tables::read_table"

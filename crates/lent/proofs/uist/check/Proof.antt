@@ -1,14 +1,12 @@
 -- `check`: both tables are read, the check runs by value, and the log is lent on to the store loop. Assumes nothing.
-use Rattle.walks.proofs.Walk.{Base, R, ptrTo, shrTy, mutTy, pV, rV, same, hasV, freeV, hasA, freeA, to, fr, gn, part, mut-len, lent-len, drop, sets, units, begins, over, forgets, relends, joins, back, returns, Callee, Knows, _&_, no-more, int, shr, mut-slice, by-val, by-num, by-slice, by-mut-slice, calls, Contract, callee, Task, task, Derives, Owes, runs, world, under, closes, knows}
-use Rattle.walks.proofs.Walk.{refl, ap, false, List, [], _∷_, Ty, w64, named, erased, mut, field, pShrS, pMutS, Sc, sInt, sUnit, lease}
+use Rattle.walks.proofs.Walk.{Base, ptrTo, shrTy, mutTy, same, hasV, freeV, hasA, freeA, to, fr, gn, part, mut-len, lent-len, drop, sets, units, begins, over, forgets, relends, joins, back, returns, Callee, Knows, _&_, no-more, int, shr, mut-slice, by-val, by-num, by-slice, by-mut-slice, calls, callee, Task, task, Derives, Owes, runs, world, under, closes, knows}
+use Rattle.walks.proofs.Walk.{refl, ap, List, [], _∷_, Ty, w64, named, erased, mut, field, Sc, sInt, sUnit, lease}
 use Rattle.walks.proofs.Store as Store
 use Rattle.market.specs.declared.quote.Quote.{Quote}
 use Rattle.market.specs.declared.trade.Trade.{Trade}
 use Rattle.broker.specs.declared.state.UistBroker.{UistBroker}
-use Rattle.lent.specs.Answers.{AnswersCheck}
 use Rattle.lent.proofs.Checked.{check-fits, check-answers}
 use Rattle.lent.proofs.Rows.{quote, table, trade}
-use Rattle.lent.proofs.UistRows as Rows
 use Rattle.lent.proofs.UistRows.{uist-broker, checked}
 use Rattle.lent.proofs.UistCallees as Callees
 use Rattle.lent.proofs.UistCallees.{knows-check, checked-trades, knows-checked-trades, checked-count, knows-checked-count, checked-first, knows-checked-first, check-answer, knows-check-answer}
@@ -17,22 +15,13 @@ use Rattle.lent.proofs.tables.read_table.Symbol as read-table-Symbol
 use Rattle.lent.proofs.tables.read_table.Met as read-table-Met
 use Rattle.lent.proofs.log.store_trades.Symbol as store-trades-Symbol
 use Rattle.lent.proofs.log.store_trades.Met as store-trades-Met
+use Rattle.lent.proofs.Public.{check as contract}
 use Rattle.lent.proofs.uist.check.Key.{name}
 use Rattle.lent.proofs.uist.check.Code as code
 use Rattle.lent.proofs.uist.check.Statement.{statement}
 
 abbrev U : Sc
 U = sInt w64
-
-abbrev contract : Contract
-contract = record {
-  n = 3;
-  ps = pV uist-broker ∷ pShrS (R quote) 0 tt ∷ pShrS (R quote) 1 tt ∷ pMutS (R trade) 2 tt ∷ [];
-  r = rV Rows.check-answer;
-  requires = false;
-  Pre = λ κs a. Unit {0};
-  Post = λ κs a z e. AnswersCheck (a .0) (a .1 .0 .now) (a .1 .1 .0 .now) (a .1 .1 .1 .0 .now) z (e .1 .1 .1 .0 .now);
-}
 
 abbrev read-table : Callee
 read-table = callee Contracts.read-table "lent::tables::read_table"

@@ -1,18 +1,17 @@
 -- `cost_basis`: four calls in a row; where a number is drawn no row is read. Assumes nothing.
-use Rattle.walks.proofs.Walk.{Base, R, shrTy, pV, rV, hasV, freeV, to, fr, gn, part, shr-len, drop, sets, returns, Callee, Knows, _&_, no-more, int, shr, by-val, by-num, by-slice, calls, Contract, callee, Task, task, Derives, Owes, runs, world, under, closes, knows, refl, false, List, [], _∷_, w32, w64, named, field, pShrS, pNum, Sc, sInt}
+use Rattle.walks.proofs.Walk.{Base, shrTy, hasV, freeV, to, fr, gn, part, shr-len, drop, sets, returns, Callee, Knows, _&_, no-more, int, shr, by-val, by-num, by-slice, calls, callee, Task, task, Derives, Owes, runs, world, under, closes, knows, refl, List, [], _∷_, w32, w64, named, field, Sc, sInt}
 use Rattle.market.specs.declared.trade.Trade.{Trade}
-use Rattle.rules.specs.Basis.{costBasis}
-use Rattle.broker.specs.Read.{ReadsAmount}
 use Rattle.broker.specs.declared.state.UistBroker.{UistBroker}
-use Rattle.lent.specs.Logs.{basisIn, loggedIn, basisNumber}
+use Rattle.lent.specs.Logs.{basisIn}
 use Rattle.lent.proofs.Faults.{rows-fit}
 use Rattle.lent.proofs.Folding.{reads-basis}
 use Rattle.lent.proofs.Rows.{trade}
-use Rattle.lent.proofs.UistRows.{uist-broker, basis, amount-read}
+use Rattle.lent.proofs.UistRows.{uist-broker, basis}
 use Rattle.lent.proofs.UistCallees.{basis-fault, knows-basis-fault, rows-logged, knows-rows-logged, basis-read, knows-basis-read}
 use Rattle.lent.proofs.Contracts as Contracts
 use Rattle.lent.proofs.folds.fold_basis.Symbol as fold-basis-Symbol
 use Rattle.lent.proofs.folds.fold_basis.Met as fold-basis-Met
+use Rattle.lent.proofs.Public.{cost-basis as contract}
 use Rattle.lent.proofs.uist.cost_basis.Key.{name}
 use Rattle.lent.proofs.uist.cost_basis.Code as code
 use Rattle.lent.proofs.uist.cost_basis.Statement.{statement}
@@ -22,16 +21,6 @@ U = sInt w64
 
 abbrev N : Sc
 N = sInt w32
-
-abbrev contract : Contract
-contract = record {
-  n = 1;
-  ps = pV uist-broker ∷ pShrS (R trade) 0 tt ∷ pNum w32 ∷ [];
-  r = rV amount-read;
-  requires = false;
-  Pre = λ κs a. Unit {0};
-  Post = λ κs a z e. ReadsAmount (costBasis (loggedIn (a .0) (a .1 .0 .now)) (a .1 .1 .0)) (basisNumber (a .0) (a .1 .0 .now) (a .1 .1 .0)) z;
-}
 
 abbrev fold-basis : Callee
 fold-basis = callee Contracts.fold-basis "lent::folds::fold_basis"

@@ -1,13 +1,11 @@
 -- `diff_against_target_weights`: the weights are read, the walk runs by value, and the list is lent on to the store loop. Assumes nothing.
-use Rattle.walks.proofs.Walk.{Base, R, ptrTo, shrTy, mutTy, pV, rV, same, hasV, freeV, hasA, freeA, to, fr, gn, part, shr-len, mut-len, lent-len, drop, sets, units, begins, over, forgets, relends, joins, back, returns, Callee, Knows, _&_, no-more, int, shr, mut-slice, by-val, by-num, by-lit, by-slice, by-mut-slice, calls, Contract, callee, Task, task, Derives, Owes, runs, world, under, closes, knows}
-use Rattle.walks.proofs.Walk.{refl, ap, false, List, [], _∷_, Ty, w32, w64, named, erased, mut, field, pShrS, pMutS, Sc, sInt, sUnit, lease}
+use Rattle.walks.proofs.Walk.{Base, ptrTo, shrTy, mutTy, same, hasV, freeV, hasA, freeA, to, fr, gn, part, shr-len, mut-len, lent-len, drop, sets, units, begins, over, forgets, relends, joins, back, returns, Callee, Knows, _&_, no-more, int, shr, mut-slice, by-val, by-num, by-lit, by-slice, by-mut-slice, calls, callee, Task, task, Derives, Owes, runs, world, under, closes, knows}
+use Rattle.walks.proofs.Walk.{refl, ap, List, [], _∷_, Ty, w32, w64, named, erased, mut, field, Sc, sInt, sUnit, lease}
 use Rattle.walks.proofs.Store as Store
 use Rattle.market.specs.declared.order.Order.{Order}
 use Rattle.market.specs.declared.weight.Weight.{Weight}
 use Rattle.broker.specs.declared.state.UistBroker.{UistBroker}
-use Rattle.lent.specs.Answers.{AnswersWalk}
 use Rattle.lent.proofs.Plans.{walk-fits, walk-answers}
-use Rattle.lent.proofs.UistRows as Rows
 use Rattle.lent.proofs.UistRows.{uist-broker, weight, weights, order, plan}
 use Rattle.lent.proofs.UistCallees.{lender-fault, knows-lender-fault, fault-of, knows-fault-of, either-fault, knows-either-fault, plan-for, knows-plan-for, orders-of, knows-orders-of, orders-written, knows-orders-written, walk-answer, knows-walk-answer}
 use Rattle.lent.proofs.Contracts as Contracts
@@ -15,6 +13,7 @@ use Rattle.lent.proofs.weights.read_weights.Symbol as read-weights-Symb
 use Rattle.lent.proofs.weights.read_weights.Met as read-weights-Met
 use Rattle.lent.proofs.store.store_orders.Symbol as store-orders-Symbol
 use Rattle.lent.proofs.store.store_orders.Met as store-orders-Met
+use Rattle.lent.proofs.Public.{diff-against-target-weights as contract}
 use Rattle.lent.proofs.uist.diff_against_target_weights.Key.{name}
 use Rattle.lent.proofs.uist.diff_against_target_weights.Code as code
 use Rattle.lent.proofs.uist.diff_against_target_weights.Statement.{statement}
@@ -24,16 +23,6 @@ U = sInt w64
 
 abbrev N : Sc
 N = sInt w32
-
-abbrev contract : Contract
-contract = record {
-  n = 2;
-  ps = pV uist-broker ∷ pShrS (R weight) 0 tt ∷ pMutS (R order) 1 tt ∷ [];
-  r = rV Rows.walk-answer;
-  requires = false;
-  Pre = λ κs a. Unit {0};
-  Post = λ κs a z e. AnswersWalk (a .0) (a .1 .0 .now) (a .1 .1 .0 .now) z (e .1 .1 .0 .now);
-}
 
 abbrev read-weights : Callee
 read-weights = callee Contracts.read-weights "lent::weights::read_weights"

@@ -1,14 +1,14 @@
 -- `send_orders`: in each turn the loop reads an order, sends it by value, and stores its event. Assumes nothing.
-use Rattle.walks.proofs.Walk.{Base, R, ty, shrTy, mutTy, pV, rV, same, hasV, makeV, freeV, rd, to, fr, gn, flag, loc, lit, part, shr-ptr, shr-len, mut-ptr, mut-len, drop, sets, ops, op-stmt, copies, reads, stores, loops, tests, ends, leaves, returns, Knows, _&_, no-more, int, by-val, by-num, calls, Contract, Task, task, here, Derives, Owes, runs, world, under, closes, refl, List, [], _∷_, w32, w64, named, field, tyInt, tyBool, tyPtr, lt, mul, add, offset, unsigned, rowsFrom, Sc, Entry, sInt, sBool, sPtr, sc-here, any-gone, whole, sslice, mslice, setVals}
-use Rattle.walks.proofs.Walk.{_≡_, ap, false, ℕ, _≤_, _<_, _+_, _-_, _*_, _^_, length, set, size, upd, get, pShrS, pMutS, arith, scaled-fits, ltb-true, ltb-false, falls, reached}
+use Rattle.walks.proofs.Walk.{Base, R, ty, shrTy, mutTy, same, hasV, makeV, freeV, rd, to, fr, gn, flag, loc, lit, part, shr-ptr, shr-len, mut-ptr, mut-len, drop, sets, ops, op-stmt, copies, reads, stores, loops, tests, ends, leaves, returns, Knows, _&_, no-more, int, by-val, by-num, calls, Task, task, here, Derives, Owes, runs, world, under, closes, refl, List, [], _∷_, w32, w64, named, field, tyInt, tyBool, tyPtr, lt, mul, add, offset, unsigned, rowsFrom, Sc, Entry, sInt, sBool, sPtr, sc-here, any-gone, whole, sslice, mslice, setVals}
+use Rattle.walks.proofs.Walk.{_≡_, ap, ℕ, _≤_, _<_, _+_, _-_, _*_, _^_, length, set, size, upd, get, arith, scaled-fits, ltb-true, ltb-false, falls, reached}
 use Rattle.market.specs.declared.order.Order.{Order}
 use Rattle.broker.specs.declared.state.UistBroker.{UistBroker}
 use Rattle.broker.specs.declared.send.OrderEvent.{OrderEvent}
-use Rattle.lent.specs.Answers.{AnswersSend}
 use Rattle.lent.proofs.Sends.{Sends, sends-none, sends-one, told-length, rows-sent, sound-sent, send-answers}
 use Rattle.lent.proofs.UistRows as Rows
 use Rattle.lent.proofs.UistRows.{uist-broker, order, order-event, sent}
 use Rattle.lent.proofs.UistCallees.{lender-fault, knows-lender-fault, rows-unless, knows-rows-unless, send-order, knows-send-order, event-of, knows-event-of, broker-of, knows-broker-of, send-answer, knows-send-answer}
+use Rattle.lent.proofs.Public.{send-orders as contract}
 use Rattle.lent.proofs.uist.send_orders.Key.{name}
 use Rattle.lent.proofs.uist.send_orders.Code as code
 use Rattle.lent.proofs.uist.send_orders.Statement.{statement}
@@ -18,16 +18,6 @@ U = sInt w64
 
 abbrev N : Sc
 N = sInt w32
-
-abbrev contract : Contract
-contract = record {
-  n = 2;
-  ps = pV uist-broker ∷ pShrS (R order) 0 tt ∷ pMutS (R order-event) 1 tt ∷ [];
-  r = rV Rows.send-answer;
-  requires = false;
-  Pre = λ κs a. Unit {0};
-  Post = λ κs a z e. AnswersSend (a .0) (a .1 .0 .now) (a .1 .1 .0 .now) z (e .1 .1 .0 .now);
-}
 
 abbrev Kn : Base → Type 1
 Kn o = Knows lender-fault o × Knows rows-unless o × Knows send-order o × Knows event-of o × Knows broker-of o × Knows send-answer o

@@ -1,18 +1,16 @@
 -- `turnover`: four calls in a row; where a number is drawn no row is read. Assumes nothing.
-use Rattle.walks.proofs.Walk.{Base, R, shrTy, pV, rV, hasV, freeV, to, fr, gn, part, shr-len, drop, sets, returns, Callee, Knows, _&_, no-more, int, real, shr, by-val, by-num, by-float, by-slice, calls, Contract, callee, Task, task, Derives, Owes, runs, world, under, closes, knows, _≡_, refl, false, List, [], _∷_, binary64, w32, w64, named, field, pShrS, Sc, sInt, sFloat}
+use Rattle.walks.proofs.Walk.{Base, shrTy, hasV, freeV, to, fr, gn, part, shr-len, drop, sets, returns, Callee, Knows, _&_, no-more, int, real, shr, by-val, by-num, by-float, by-slice, calls, callee, Task, task, Derives, Owes, runs, world, under, closes, knows, refl, List, [], _∷_, binary64, w32, w64, named, field, Sc, sInt, sFloat}
 use Rattle.market.specs.declared.trade.Trade.{Trade}
-use Rattle.rules.specs.Basis as Rules
-use Rattle.broker.specs.Read.{readFloat}
 use Rattle.broker.specs.declared.state.UistBroker.{UistBroker}
-use Rattle.lent.specs.Logs.{loggedIn, turnoverNumber}
 use Rattle.lent.proofs.Faults.{rows-fit}
 use Rattle.lent.proofs.Folding.{reads-turnover}
 use Rattle.lent.proofs.Rows.{trade}
-use Rattle.lent.proofs.UistRows.{uist-broker, float-read}
+use Rattle.lent.proofs.UistRows.{uist-broker}
 use Rattle.lent.proofs.UistCallees.{log-fault, knows-log-fault, rows-logged, knows-rows-logged, turnover-read, knows-turnover-read}
 use Rattle.lent.proofs.Contracts as Contracts
 use Rattle.lent.proofs.folds.fold_turnover.Symbol as fold-turnover-Symbol
 use Rattle.lent.proofs.folds.fold_turnover.Met as fold-turnover-Met
+use Rattle.lent.proofs.Public.{turnover as contract}
 use Rattle.lent.proofs.uist.turnover.Key.{name}
 use Rattle.lent.proofs.uist.turnover.Code as code
 use Rattle.lent.proofs.uist.turnover.Statement.{statement}
@@ -25,16 +23,6 @@ N = sInt w32
 
 abbrev F : Sc
 F = sFloat binary64
-
-abbrev contract : Contract
-contract = record {
-  n = 1;
-  ps = pV uist-broker ∷ pShrS (R trade) 0 tt ∷ [];
-  r = rV float-read;
-  requires = false;
-  Pre = λ κs a. Unit {0};
-  Post = λ κs a z e. z ≡ readFloat (Rules.turnover (loggedIn (a .0) (a .1 .0 .now))) (turnoverNumber (a .0) (a .1 .0 .now));
-}
 
 abbrev fold-turnover : Callee
 fold-turnover = callee Contracts.fold-turnover "lent::folds::fold_turnover"

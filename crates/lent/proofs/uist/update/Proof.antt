@@ -1,16 +1,14 @@
 -- `update`: tables and weights are read, the update runs by value, and the log, then the list for events, is lent on to its store loop. Assumes nothing.
-use Rattle.walks.proofs.Walk.{Base, R, ptrTo, shrTy, mutTy, pV, rV, same, hasV, freeV, hasA, freeA, to, fr, gn, part, shr-len, mut-len, lent-len, drop, sets, units, begins, over, forgets, relends, joins, back, returns, Callee, Knows, _&_, no-more, int, shr, mut-slice, by-val, by-num, by-lit, by-slice, by-mut-slice, calls, Contract, callee, Task, task, Derives, Owes, runs, world, under, closes, knows}
-use Rattle.walks.proofs.Walk.{refl, ap, false, List, [], _∷_, Ty, w64, named, erased, mut, field, pShrS, pMutS, Sc, sInt, sUnit, lease}
+use Rattle.walks.proofs.Walk.{Base, ptrTo, shrTy, mutTy, same, hasV, freeV, hasA, freeA, to, fr, gn, part, shr-len, mut-len, lent-len, drop, sets, units, begins, over, forgets, relends, joins, back, returns, Callee, Knows, _&_, no-more, int, shr, mut-slice, by-val, by-num, by-lit, by-slice, by-mut-slice, calls, callee, Task, task, Derives, Owes, runs, world, under, closes, knows}
+use Rattle.walks.proofs.Walk.{refl, ap, List, [], _∷_, Ty, w64, named, erased, mut, field, Sc, sInt, sUnit, lease}
 use Rattle.walks.proofs.Store as Store
 use Rattle.market.specs.declared.quote.Quote.{Quote}
 use Rattle.market.specs.declared.trade.Trade.{Trade}
 use Rattle.market.specs.declared.weight.Weight.{Weight}
 use Rattle.broker.specs.declared.state.UistBroker.{UistBroker}
 use Rattle.broker.specs.declared.send.OrderEvent.{OrderEvent}
-use Rattle.lent.specs.Answers.{AnswersUpdate}
 use Rattle.lent.proofs.Updated.{log-fits, log-is, events-fit, update-answers}
 use Rattle.lent.proofs.Rows.{quote, table, trade}
-use Rattle.lent.proofs.UistRows as Rows
 use Rattle.lent.proofs.UistRows.{uist-broker, weight, weights, order-event, lengths, updated}
 use Rattle.lent.proofs.UistCallees as Callees
 use Rattle.lent.proofs.UistCallees.{lengths-of, knows-lengths-of, knows-update, updated-trades, knows-updated-trades, updated-count, knows-updated-count, updated-first, knows-updated-first, updated-events, knows-updated-events, updated-sent, knows-updated-sent, update-answer, knows-update-answer}
@@ -23,22 +21,13 @@ use Rattle.lent.proofs.log.store_trades.Symbol as store-trades-Symbol
 use Rattle.lent.proofs.log.store_trades.Met as store-trades-Met
 use Rattle.lent.proofs.store.store_events.Symbol as store-events-Symbol
 use Rattle.lent.proofs.store.store_events.Met as store-events-Met
+use Rattle.lent.proofs.Public.{update as contract}
 use Rattle.lent.proofs.uist.update.Key.{name}
 use Rattle.lent.proofs.uist.update.Code as code
 use Rattle.lent.proofs.uist.update.Statement.{statement}
 
 abbrev U : Sc
 U = sInt w64
-
-abbrev contract : Contract
-contract = record {
-  n = 5;
-  ps = pV uist-broker ∷ pShrS (R quote) 0 tt ∷ pShrS (R quote) 1 tt ∷ pShrS (R weight) 2 tt ∷ pMutS (R order-event) 3 tt ∷ pMutS (R trade) 4 tt ∷ [];
-  r = rV Rows.update-answer;
-  requires = false;
-  Pre = λ κs a. Unit {0};
-  Post = λ κs a z e. AnswersUpdate (a .0) (a .1 .0 .now) (a .1 .1 .0 .now) (a .1 .1 .1 .0 .now) (a .1 .1 .1 .1 .0 .now) (a .1 .1 .1 .1 .1 .0 .now) z (e .1 .1 .1 .1 .0 .now) (e .1 .1 .1 .1 .1 .0 .now);
-}
 
 abbrev read-table : Callee
 read-table = callee Contracts.read-table "lent::tables::read_table"
