@@ -47,6 +47,18 @@ use Rattle.arrays.proofs.sent_rows.Kinds as sent-rows-Kinds
 use Rattle.arrays.proofs.sent_rows.Reads as sent-rows-Reads
 use Rattle.arrays.proofs.sent_rows.Symbol as sent-rows-Symbol
 use Rattle.arrays.proofs.sent_rows.Met as sent-rows-Met
+use Rattle.arrays.proofs.checked.Kinds as checked-Kinds
+use Rattle.arrays.proofs.checked.Reads as checked-Reads
+use Rattle.arrays.proofs.checked.Symbol as checked-Symbol
+use Rattle.arrays.proofs.checked.Met as checked-Met
+use Rattle.arrays.proofs.clock.now.Kinds as now-Kinds
+use Rattle.arrays.proofs.clock.now.Reads as now-Reads
+use Rattle.arrays.proofs.clock.now.Symbol as now-Symbol
+use Rattle.arrays.proofs.clock.now.Met as now-Met
+use Rattle.arrays.proofs.clock.since.Kinds as since-Kinds
+use Rattle.arrays.proofs.clock.since.Reads as since-Reads
+use Rattle.arrays.proofs.clock.since.Symbol as since-Symbol
+use Rattle.arrays.proofs.clock.since.Met as since-Met
 use Rattle.arrays.proofs.no_events.Kinds as no-events-Kinds
 use Rattle.arrays.proofs.no_events.Reads as no-events-Reads
 use Rattle.arrays.proofs.no_events.Symbol as no-events-Symbol
@@ -163,3 +175,21 @@ sent-rows = record { n = 0; ps = sent-rows-Kinds.ps; r = sent-rows-Kinds.r; Pre 
 
 pub knows-sent-rows : (w : World) (γ : Env) → γ "arrays::sent_rows" ≡ sent-rows-Symbol.routine → Knows sent-rows (under w γ)
 knows-sent-rows w γ e = sent-rows-Reads.known w γ "arrays::sent_rows" sent-rows-Symbol.routine e (sent-rows-Met.met (w .𝓤) (w .H) (w .𝓜) (w .𝓖) (w .𝓡))
+
+abbrev pub checked : Callee
+checked = record { n = 0; ps = checked-Kinds.ps; r = checked-Kinds.r; Pre = checked-Reads.Asked; Post = checked-Reads.Learnt; key = "arrays::checked" }
+
+pub knows-checked : (w : World) (γ : Env) → γ "arrays::checked" ≡ checked-Symbol.routine → Knows checked (under w γ)
+knows-checked w γ e = checked-Reads.known w γ "arrays::checked" checked-Symbol.routine e (checked-Met.met (w .𝓤) (w .H) (w .𝓜) (w .𝓖) (w .𝓡))
+
+abbrev pub now : Callee
+now = record { n = 0; ps = now-Kinds.ps; r = now-Kinds.r; Pre = now-Reads.Asked; Post = now-Reads.Learnt; key = "arrays::clock::now" }
+
+pub knows-now : (w : World) (γ : Env) → γ "arrays::clock::now" ≡ now-Symbol.routine → Knows now (under w γ)
+knows-now w γ e = now-Reads.known w γ "arrays::clock::now" now-Symbol.routine e (now-Met.met (w .𝓤) (w .H) (w .𝓜) (w .𝓖) (w .𝓡))
+
+abbrev pub since : Callee
+since = record { n = 0; ps = since-Kinds.ps; r = since-Kinds.r; Pre = since-Reads.Asked; Post = since-Reads.Learnt; key = "arrays::clock::since" }
+
+pub knows-since : (w : World) (γ : Env) → γ "arrays::clock::since" ≡ since-Symbol.routine → Knows since (under w γ)
+knows-since w γ e = since-Reads.known w γ "arrays::clock::since" since-Symbol.routine e (since-Met.met (w .𝓤) (w .H) (w .𝓜) (w .𝓖) (w .𝓡))

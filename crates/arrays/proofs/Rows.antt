@@ -4,6 +4,8 @@ use Rattle.arrays.proofs.Lists as Li
 use Rattle.arrays.proofs.Lists.Laws as Li′
 use Rattle.arrays.proofs.Orders as Or
 use Rattle.arrays.proofs.Orders.Laws as Or′
+use Rattle.arrays.proofs.CheckedList as Ch
+use Rattle.arrays.proofs.CheckedList.Laws as Ch′
 use Rattle.arrays.proofs.UpdatedList as Up
 use Rattle.arrays.proofs.UpdatedList.Laws as Up′
 use Rattle.arrays.proofs.SentList as Se
@@ -19,8 +21,11 @@ lists = struct Li.the-type Li′.the-laws Li′.the-copy Li′.the-plain (record
 abbrev pub orders : Kin
 orders = struct Or.the-type Or′.the-laws Or′.the-copy Or′.the-plain (record { list = []; count = 0; room = 0 }) tt
 
+abbrev pub checked-list : Kin
+checked-list = struct Ch.the-type Ch′.the-laws Ch′.the-copy Ch′.the-plain (record { answer = Uist.check-answer .none; micros = 0 }) tt
+
 abbrev pub updated-list : Kin
-updated-list = struct Up.the-type Up′.the-laws Up′.the-copy Up′.the-plain (record { answer = Uist.update-answer .none; events = [] }) tt
+updated-list = struct Up.the-type Up′.the-laws Up′.the-copy Up′.the-plain (record { answer = Uist.update-answer .none; events = []; micros = 0 }) tt
 
 abbrev pub sent-list : Kin
 sent-list = struct Se.the-type Se′.the-laws Se′.the-copy Se′.the-plain (record { answer = Uist.send-answer .none; events = [] }) tt

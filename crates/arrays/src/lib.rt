@@ -2,6 +2,9 @@
 // its arrays.
 ghost use mathlib.Core.Path.{_≡_};
 ghost use Prim.Native.Nat.{_≤_, min};
+
+pub mod clock;
+
 use broker::build::Built;
 use broker::send::OrderEvent;
 use broker::state::UistBroker;
@@ -16,12 +19,20 @@ use market::quote::Quote;
 use market::trade::Trade;
 use market::weight::Weight;
 
-// An answer, with the list of events that was lent.
+// An answer, and the microseconds of processor time that the call took.
+pub struct CheckedList {
+    pub answer: CheckAnswer,
+    pub micros: u64,
+}
+
+// The same, with the list of events that was lent.
 pub struct UpdatedList {
     pub answer: UpdateAnswer,
     pub events: [OrderEvent; 1024],
+    pub micros: u64,
 }
 
+// An answer, with the list of events that was lent.
 pub struct SentList {
     pub answer: SendAnswer,
     pub events: [OrderEvent; 1024],
@@ -53,10 +64,18 @@ pub fn no_orders() -> [Order; 1024] {
     [o; 1024]
 }
 
-pub fn updated(answer: UpdateAnswer, events: [OrderEvent; 1024]) -> UpdatedList {
+pub fn checked(answer: CheckAnswer, micros: u64) -> CheckedList {
+    CheckedList {
+        answer: answer,
+        micros: micros,
+    }
+}
+
+pub fn updated(answer: UpdateAnswer, events: [OrderEvent; 1024], micros: u64) -> UpdatedList {
     UpdatedList {
         answer: answer,
         events: events,
+        micros: micros,
     }
 }
 
@@ -151,12 +170,15 @@ pub fn build_on(costs: TradeCosts, x: Lists, log: &[Trade]) -> Built {
     uist::build(costs, &t[..k], log)
 }
 
-pub fn check_on(b: UistBroker, x: Lists, log: &mut [Trade]) -> CheckAnswer {
+pub fn check_on(b: UistBroker, x: Lists, log: &mut [Trade]) -> CheckedList {
     let t = tradable_in(x);
     let f = fetched_in(x);
     let k = tradable_rows(x);
     let l = fetched_rows(x);
-    uist::check(b, &t[..k], &f[..l], log)
+    let from = clock::now();
+    let y = uist::check(b, &t[..k], &f[..l], log);
+    let micros = clock::since(from);
+    checked(y, micros)
 }
 
 pub fn send_on(b: UistBroker, x: Orders) -> SentList {
@@ -186,6 +208,8 @@ pub fn update_on(b: UistBroker, x: Lists, log: &mut [Trade]) -> UpdatedList {
     let m = weight_rows(x);
     let r = event_rows(x);
     let mut events = no_events();
+    let from = clock::now();
     let y = uist::update(b, &t[..k], &f[..l], &w[..m], &mut events[..r], log);
-    updated(y, events)
+    let micros = clock::since(from);
+    updated(y, events, micros)
 }

@@ -103,10 +103,10 @@ use Rattle.scenario.proofs.run.large_rows.Kinds as large-rows-Kinds
 use Rattle.scenario.proofs.run.large_rows.Reads as large-rows-Reads
 use Rattle.scenario.proofs.run.large_rows.Symbol as large-rows-Symbol
 use Rattle.scenario.proofs.run.large_rows.Met as large-rows-Met
-use Rattle.scenario.proofs.plain_calls.now.Kinds as now-Kinds
-use Rattle.scenario.proofs.plain_calls.now.Reads as now-Reads
-use Rattle.scenario.proofs.plain_calls.now.Symbol as now-Symbol
-use Rattle.scenario.proofs.plain_calls.now.Met as now-Met
+use Rattle.arrays.proofs.clock.now.Kinds as now-Kinds
+use Rattle.arrays.proofs.clock.now.Reads as now-Reads
+use Rattle.arrays.proofs.clock.now.Symbol as now-Symbol
+use Rattle.arrays.proofs.clock.now.Met as now-Met
 use Rattle.scenario.proofs.plain_calls.unchanged.Kinds as unchanged-Kinds
 use Rattle.scenario.proofs.plain_calls.unchanged.Reads as unchanged-Reads
 use Rattle.scenario.proofs.plain_calls.unchanged.Symbol as unchanged-Symbol
@@ -351,10 +351,10 @@ pub knows-large-rows : (w : World) (γ : Env) → γ "scenario::run::large_rows"
 knows-large-rows w γ e = large-rows-Reads.known w γ "scenario::run::large_rows" large-rows-Symbol.routine e (large-rows-Met.met (w .𝓤) (w .H) (w .𝓜) (w .𝓖) (w .𝓡))
 
 abbrev pub now : Callee
-now = record { n = 0; ps = now-Kinds.ps; r = now-Kinds.r; Pre = now-Reads.Asked; Post = now-Reads.Learnt; key = "scenario::plain_calls::now" }
+now = record { n = 0; ps = now-Kinds.ps; r = now-Kinds.r; Pre = now-Reads.Asked; Post = now-Reads.Learnt; key = "arrays::clock::now" }
 
-pub knows-now : (w : World) (γ : Env) → γ "scenario::plain_calls::now" ≡ now-Symbol.routine → Knows now (under w γ)
-knows-now w γ e = now-Reads.known w γ "scenario::plain_calls::now" now-Symbol.routine e (now-Met.met (w .𝓤) (w .H) (w .𝓜) (w .𝓖) (w .𝓡))
+pub knows-now : (w : World) (γ : Env) → γ "arrays::clock::now" ≡ now-Symbol.routine → Knows now (under w γ)
+knows-now w γ e = now-Reads.known w γ "arrays::clock::now" now-Symbol.routine e (now-Met.met (w .𝓤) (w .H) (w .𝓜) (w .𝓖) (w .𝓡))
 
 abbrev pub unchanged : Callee
 unchanged = record { n = 0; ps = unchanged-Kinds.ps; r = unchanged-Kinds.r; Pre = unchanged-Reads.Asked; Post = unchanged-Reads.Learnt; key = "scenario::plain_calls::unchanged" }

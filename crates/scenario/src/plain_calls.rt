@@ -1,10 +1,10 @@
 // The calls that need no lent list: they run by value, and their answers are written.
 use crate::answer;
 use crate::answer::Head;
+use arrays::clock;
 use broker::read::FloatRead;
 use broker::state::UistBroker;
 use text::call::Call;
-use text::out;
 use text::verb::Verb;
 
 // The broker after a call, and the microseconds of processor time that the call took.
@@ -17,24 +17,6 @@ pub fn broker_in(d: Done) -> UistBroker {
     d.broker
 }
 
-// The processor time so far.
-pub fn now() -> i64 {
-    libc::clock()
-}
-
-pub fn since(from: i64) -> u64 {
-    let to = libc::clock();
-    if from < 0 || to < 0 {
-        return 0;
-    }
-    let before = out::magnitude(from);
-    let after = out::magnitude(to);
-    if after < before {
-        return 0;
-    }
-    after - before
-}
-
 pub fn unchanged(b: UistBroker) -> Done {
     Done {
         broker: b,
@@ -44,13 +26,13 @@ pub fn unchanged(b: UistBroker) -> Done {
 
 fn cash_call(b: UistBroker, c: Call, head: Head) -> Done {
     let v = c.verb;
-    let from = now();
+    let from = clock::now();
     let x = match v {
         Verb::Deposit => b.deposit_cash(c.amount),
         Verb::Withdraw => b.withdraw_cash(c.amount),
         _ => b.withdraw_cash_with_liquidation(c.amount),
     };
-    let micros = since(from);
+    let micros = clock::since(from);
     let event = x.event;
     answer::cash(head, event);
     let broker = x.broker;
@@ -62,9 +44,9 @@ fn cash_call(b: UistBroker, c: Call, head: Head) -> Done {
 
 fn send_call(b: UistBroker, c: Call, head: Head) -> Done {
     let o = c.order;
-    let from = now();
+    let from = clock::now();
     let x = b.send_order(o);
-    let micros = since(from);
+    let micros = clock::since(from);
     let e = x.event;
     answer::event(head, e);
     let broker = x.broker;
@@ -76,9 +58,9 @@ fn send_call(b: UistBroker, c: Call, head: Head) -> Done {
 
 fn insert_call(b: UistBroker, c: Call, head: Head) -> Done {
     let o = c.order;
-    let from = now();
+    let from = clock::now();
     let x = b.insert_order(o);
-    let micros = since(from);
+    let micros = clock::since(from);
     let e = x.event;
     answer::event(head, e);
     let broker = x.broker;
@@ -89,9 +71,9 @@ fn insert_call(b: UistBroker, c: Call, head: Head) -> Done {
 }
 
 fn delete_call(b: UistBroker, c: Call, head: Head) -> Done {
-    let from = now();
+    let from = clock::now();
     let x = b.delete_order(c.whole);
-    let micros = since(from);
+    let micros = clock::since(from);
     answer::worded(head, x.number, b"done");
     let broker = x.broker;
     Done {
@@ -155,14 +137,14 @@ fn read_call(b: UistBroker, c: Call, head: Head) {
 fn timed(b: UistBroker, from: i64) -> Done {
     Done {
         broker: b,
-        micros: since(from),
+        micros: clock::since(from),
     }
 }
 
 // A call that needs no lent list.
 pub fn plain_call(b: UistBroker, c: Call, head: Head) -> Done {
     let v = c.verb;
-    let from = now();
+    let from = clock::now();
     match v {
         Verb::Deposit | Verb::Withdraw | Verb::Liquidate => cash_call(b, c, head),
         Verb::Send => send_call(b, c, head),

@@ -10,16 +10,17 @@ use crate::show;
 use crate::view;
 use crate::view::Symbols;
 use crate::view::View;
+use arrays::CheckedList;
 use arrays::Lists;
 use arrays::Orders;
 use arrays::UpdatedList;
+use arrays::clock;
 use broker::build::Built;
 use broker::read::AmountRead;
 use broker::read::FloatRead;
 use broker::state::UistBroker;
 use costs::TradeCosts;
 use lent::uist;
-use lent::uist::CheckAnswer;
 use market::order::Order;
 use market::table::Table;
 use market::trade::Trade;
@@ -138,30 +139,29 @@ pub(crate) fn symbol_in(c: Call) -> u32 {
     c.symbol
 }
 
-pub(crate) fn check_done(a: CheckAnswer, x: Input, c: Call, from: i64) -> Done {
-    let micros = plain_calls::since(from);
+pub(crate) fn check_done(y: CheckedList, x: Input, c: Call) -> Done {
+    let a = y.answer;
     answer::checked(head_of(x, c), a.number, a.traded, a.queued);
     let broker = a.broker;
     Done {
         broker: broker,
-        micros: micros,
+        micros: y.micros,
     }
 }
 
-pub(crate) fn update_done(u: UpdatedList, x: Input, c: Call, from: i64) -> Done {
-    let micros = plain_calls::since(from);
+pub(crate) fn update_done(u: UpdatedList, x: Input, c: Call) -> Done {
     let a = u.answer;
     let events = u.events;
     answer::updated(head_of(x, c), a.number, a.total, events, a.sent);
     let broker = a.broker;
     Done {
         broker: broker,
-        micros: micros,
+        micros: u.micros,
     }
 }
 
 pub(crate) fn build_done(b: Built, x: Input, c: Call, from: i64) -> Done {
-    let micros = plain_calls::since(from);
+    let micros = clock::since(from);
     answer::worded(head_of(x, c), b.number, b"built");
     let broker = b.broker;
     Done {
@@ -171,7 +171,7 @@ pub(crate) fn build_done(b: Built, x: Input, c: Call, from: i64) -> Done {
 }
 
 pub(crate) fn basis_done(d: Done, a: AmountRead, x: Input, c: Call, from: i64) -> Done {
-    let micros = plain_calls::since(from);
+    let micros = clock::since(from);
     answer::amount(head_of(x, c), a);
     let broker = d.broker;
     Done {
@@ -181,7 +181,7 @@ pub(crate) fn basis_done(d: Done, a: AmountRead, x: Input, c: Call, from: i64) -
 }
 
 pub(crate) fn turnover_done(d: Done, a: FloatRead, x: Input, c: Call, from: i64) -> Done {
-    let micros = plain_calls::since(from);
+    let micros = clock::since(from);
     answer::float(head_of(x, c), a);
     let broker = d.broker;
     Done {
@@ -193,7 +193,7 @@ pub(crate) fn turnover_done(d: Done, a: FloatRead, x: Input, c: Call, from: i64)
 fn send_list_call(b: UistBroker, x: Input, c: Call) -> Done {
     let rows = orders_of(x, c);
     let orders = c.orders;
-    let from = plain_calls::now();
+    let from = clock::now();
     let s = arrays::send_on(
         b,
         Orders {
@@ -202,7 +202,7 @@ fn send_list_call(b: UistBroker, x: Input, c: Call) -> Done {
             room: c.room,
         },
     );
-    let micros = plain_calls::since(from);
+    let micros = clock::since(from);
     let a = s.answer;
     let events = s.events;
     answer::events(head_of(x, c), a.number, events, orders.count);
@@ -215,9 +215,9 @@ fn send_list_call(b: UistBroker, x: Input, c: Call) -> Done {
 
 fn walk_call(b: UistBroker, x: Input, c: Call) -> Done {
     let lists = lists_of(x, c);
-    let from = plain_calls::now();
+    let from = clock::now();
     let s = arrays::walk_on(b, lists);
-    let micros = plain_calls::since(from);
+    let micros = clock::since(from);
     let a = s.answer;
     let orders = s.orders;
     answer::orders(head_of(x, c), a.number, orders, a.count);
@@ -254,15 +254,13 @@ pub(crate) fn other_call(d: Done, x: Input, c: Call) -> Done {
 fn act(b: UistBroker, c: Call, x: Input, log: &mut [Trade]) -> Done {
     if is_check(c) {
         let lists = lists_of(x, c);
-        let from = plain_calls::now();
         let y = arrays::check_on(b, lists, log);
-        return check_done(y, x, c, from);
+        return check_done(y, x, c);
     }
     if is_update(c) {
         let lists = lists_of(x, c);
-        let from = plain_calls::now();
         let y = arrays::update_on(b, lists, log);
-        return update_done(y, x, c, from);
+        return update_done(y, x, c);
     }
     plain_calls::unchanged(b)
 }
@@ -272,19 +270,19 @@ fn look(d: Done, c: Call, x: Input, log: &[Trade]) -> Done {
     if is_new(c) {
         let costs = costs_of(x, c);
         let lists = lists_of(x, c);
-        let from = plain_calls::now();
+        let from = clock::now();
         let y = arrays::build_on(costs, lists, log);
         return build_done(y, x, c, from);
     }
     if is_basis(c) {
         let b = plain_calls::broker_in(d);
-        let from = plain_calls::now();
+        let from = clock::now();
         let y = uist::cost_basis(b, log, symbol_in(c));
         return basis_done(d, y, x, c, from);
     }
     if is_turnover(c) {
         let b = plain_calls::broker_in(d);
-        let from = plain_calls::now();
+        let from = clock::now();
         let y = uist::turnover(b, log);
         return turnover_done(d, y, x, c, from);
     }

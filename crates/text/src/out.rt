@@ -178,7 +178,7 @@ fn put_reader(out: &mut [u8; 4096], at: usize, v: Verb) -> usize {
     }
 }
 
-fn put_helper(out: &mut [u8; 4096], at: usize, v: Verb) -> usize {
+fn put_other(out: &mut [u8; 4096], at: usize, v: Verb) -> usize {
     match v {
         Verb::Malformed => put(out, at, b" malformed"),
         Verb::Floor => put(out, at, b" floor"),
@@ -196,7 +196,7 @@ pub fn put_head(out: &mut [u8; 4096], line: u64, v: Verb) -> usize {
     let mut n = put_whole(out, 0, line);
     n = put_mover(out, n, v);
     n = put_reader(out, n, v);
-    put_helper(out, n, v)
+    put_other(out, n, v)
 }
 
 pub fn put_refused(out: &mut [u8; 4096], at: usize, number: u32) -> usize {

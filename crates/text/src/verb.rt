@@ -128,7 +128,7 @@ fn reader(w: &[u8]) -> Verb {
 }
 
 // The verbs that need no broker.
-fn helper(w: &[u8]) -> Verb {
+fn other(w: &[u8]) -> Verb {
     if word::is_name(w, b"floor") {
         return Verb::Floor;
     }
@@ -174,5 +174,5 @@ pub fn named(w: &[u8]) -> Verb {
     if is_known(r) {
         return r;
     }
-    helper(w)
+    other(w)
 }

@@ -1,22 +1,20 @@
 -- `build_on`: the first rows of the table are lent, and the log is passed on. Assumes nothing.
-use Rattle.walks.proofs.Walk.{Base, R, ptrTo, shrTy, pV, rV, same, hasV, freeV, hasA, makeA, freeA, rd, fr, gn, loc, drop, copies, units, begins, over, forgets, arrTo, freeS, joins-shr, shares-array, array-shr-back, returns, Callee, Knows, _&_, no-more, shr, by-val, by-slice, calls, Contract, callee, Task, task, Derives, Owes, runs, world, under, knows, closes-safe, arith, refl, false, [], _∷_, w64, erased, imm, pShrS, Sc, sInt}
+use Rattle.walks.proofs.Walk.{Base, ptrTo, shrTy, same, hasV, freeV, hasA, makeA, freeA, rd, fr, gn, loc, drop, copies, units, begins, over, forgets, arrTo, freeS, joins-shr, shares-array, array-shr-back, returns, Callee, Knows, _&_, no-more, shr, by-val, by-slice, calls, callee, Task, task, Derives, Owes, runs, world, under, knows, closes-safe, arith, refl, [], _∷_, w64, erased, imm, Sc, sInt}
 use Rattle.lent.proofs.Rows.{quote, trade}
-use Rattle.lent.proofs.UistRows.{trade-costs, built}
+use Rattle.lent.proofs.UistRows.{trade-costs}
 use Rattle.lent.proofs.Public as Public
 use Rattle.lent.proofs.uist.build.Symbol as build-Symbol
 use Rattle.lent.proofs.uist.build.Met as build-Met
 use Rattle.arrays.proofs.Rows.{lists}
 use Rattle.arrays.proofs.Callees.{tradable-in, knows-tradable-in, tradable-rows, knows-tradable-rows}
 use Rattle.arrays.proofs.Lengths.{within, counted}
+use Rattle.arrays.proofs.Contracts.{build-on as contract}
 use Rattle.arrays.proofs.build_on.Key.{name}
 use Rattle.arrays.proofs.build_on.Code as code
 use Rattle.arrays.proofs.build_on.Statement.{statement}
 
 abbrev U : Sc
 U = sInt w64
-
-abbrev contract : Contract
-contract = record { n = 1; ps = pV trade-costs ∷ pV lists ∷ pShrS (R trade) 0 tt ∷ []; r = rV built; requires = false; Pre = λ κs a. Unit {0}; Post = λ κs a z e. Unit {0} }
 
 abbrev build : Callee
 build = callee Public.build "lent::uist::build"

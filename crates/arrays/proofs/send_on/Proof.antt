@@ -1,21 +1,19 @@
 -- `send_on`: the first orders are lent, and the first events of an array of blank ones. Assumes nothing.
-use Rattle.walks.proofs.Walk.{Base, ptrTo, pV, rV, same, hasV, freeV, hasA, makeA, freeA, rd, fr, gn, loc, drop, copies, units, begins, over, forgets, arrTo, freeS, joins-shr, joins-mut, shares-array, array-shr-back, lends-array, array-back, returns, Callee, Knows, _&_, no-more, shr, mut-slice, by-val, by-slice, by-mut-slice, calls, Contract, callee, Task, task, Derives, Owes, runs, world, under, knows, closes-safe, arith, refl, false, [], _∷_, w64, erased, imm, mut, Sc, sInt}
+use Rattle.walks.proofs.Walk.{Base, ptrTo, same, hasV, freeV, hasA, makeA, freeA, rd, fr, gn, loc, drop, copies, units, begins, over, forgets, arrTo, freeS, joins-shr, joins-mut, shares-array, array-shr-back, lends-array, array-back, returns, Callee, Knows, _&_, no-more, shr, mut-slice, by-val, by-slice, by-mut-slice, calls, callee, Task, task, Derives, Owes, runs, world, under, knows, closes-safe, arith, refl, [], _∷_, w64, erased, imm, mut, Sc, sInt}
 use Rattle.lent.proofs.UistRows.{uist-broker, order, order-event, send-answer}
 use Rattle.lent.proofs.Public as Public
 use Rattle.lent.proofs.uist.send_orders.Symbol as send-orders-Symbol
 use Rattle.lent.proofs.uist.send_orders.Met as send-orders-Met
-use Rattle.arrays.proofs.Rows.{sent-list, orders}
+use Rattle.arrays.proofs.Rows.{orders}
 use Rattle.arrays.proofs.Callees.{orders-in, knows-orders-in, order-rows, knows-order-rows, sent-rows, knows-sent-rows, no-events, knows-no-events, sent, knows-sent}
 use Rattle.arrays.proofs.Lengths.{within, counted}
+use Rattle.arrays.proofs.Contracts.{send-on as contract}
 use Rattle.arrays.proofs.send_on.Key.{name}
 use Rattle.arrays.proofs.send_on.Code as code
 use Rattle.arrays.proofs.send_on.Statement.{statement}
 
 abbrev U : Sc
 U = sInt w64
-
-abbrev contract : Contract
-contract = record { n = 0; ps = pV uist-broker ∷ pV orders ∷ []; r = rV sent-list; requires = false; Pre = λ κs a. Unit {0}; Post = λ κs a z e. Unit {0} }
 
 abbrev send-orders : Callee
 send-orders = callee Public.send-orders "lent::uist::send_orders"

@@ -1,21 +1,19 @@
 -- `walk_on`: the first weights are lent, and the first orders of an array of blank ones. Assumes nothing.
-use Rattle.walks.proofs.Walk.{Base, ptrTo, pV, rV, same, hasV, freeV, hasA, makeA, freeA, rd, fr, gn, loc, drop, copies, units, begins, over, forgets, arrTo, freeS, joins-shr, joins-mut, shares-array, array-shr-back, lends-array, array-back, returns, Callee, Knows, _&_, no-more, shr, mut-slice, by-val, by-slice, by-mut-slice, calls, Contract, callee, Task, task, Derives, Owes, runs, world, under, knows, closes-safe, arith, refl, false, [], _∷_, w64, erased, imm, mut, Sc, sInt}
+use Rattle.walks.proofs.Walk.{Base, ptrTo, same, hasV, freeV, hasA, makeA, freeA, rd, fr, gn, loc, drop, copies, units, begins, over, forgets, arrTo, freeS, joins-shr, joins-mut, shares-array, array-shr-back, lends-array, array-back, returns, Callee, Knows, _&_, no-more, shr, mut-slice, by-val, by-slice, by-mut-slice, calls, callee, Task, task, Derives, Owes, runs, world, under, knows, closes-safe, arith, refl, [], _∷_, w64, erased, imm, mut, Sc, sInt}
 use Rattle.lent.proofs.UistRows.{uist-broker, order, weight, walk-answer}
 use Rattle.lent.proofs.Public as Public
 use Rattle.lent.proofs.uist.diff_against_target_weights.Symbol as diff-against-target-weights-Symbol
 use Rattle.lent.proofs.uist.diff_against_target_weights.Met as diff-against-target-weights-Met
-use Rattle.arrays.proofs.Rows.{lists, walked-list, orders}
+use Rattle.arrays.proofs.Rows.{lists}
 use Rattle.arrays.proofs.Callees.{weights-in, knows-weights-in, weight-rows, knows-weight-rows, event-rows, knows-event-rows, no-orders, knows-no-orders, walked, knows-walked}
 use Rattle.arrays.proofs.Lengths.{within, counted}
+use Rattle.arrays.proofs.Contracts.{walk-on as contract}
 use Rattle.arrays.proofs.walk_on.Key.{name}
 use Rattle.arrays.proofs.walk_on.Code as code
 use Rattle.arrays.proofs.walk_on.Statement.{statement}
 
 abbrev U : Sc
 U = sInt w64
-
-abbrev contract : Contract
-contract = record { n = 0; ps = pV uist-broker ∷ pV lists ∷ []; r = rV walked-list; requires = false; Pre = λ κs a. Unit {0}; Post = λ κs a z e. Unit {0} }
 
 abbrev diff-against-target-weights : Callee
 diff-against-target-weights = callee Public.diff-against-target-weights "lent::uist::diff_against_target_weights"

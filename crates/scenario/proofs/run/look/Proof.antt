@@ -59,7 +59,7 @@ look-spec 𝓤 H 𝓜 𝓖 𝓡 =
       knows-is-new w code.env code.calls-scenario·run·is-new,
       knows-costs-of w code.env code.calls-scenario·run·costs-of,
       knows-lists-of w code.env code.calls-scenario·run·lists-of,
-      knows-now w code.env code.calls-scenario·plain-calls·now,
+      knows-now w code.env code.calls-arrays·clock·now,
       knows-safe ArrayContracts.build-on w code.env "arrays::build_on" build-on-Symbol.routine code.calls-arrays·build-on (build-on-Met.met 𝓤 H 𝓜 𝓖 𝓡),
       knows-build-done w code.env code.calls-scenario·run·build-done,
       knows-is-basis w code.env code.calls-scenario·run·is-basis,
