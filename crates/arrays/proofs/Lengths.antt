@@ -21,3 +21,6 @@ module _ {A : Type 0} (l : List A) (k : ℕ) where
     where
       eq : k ≡ length (take k l)
       eq = omega (arith, length-take k l, fits)
+
+  pub count-within : (n N : ℕ) → k ≡ min n N → length l ≡ N → vint w64 k ≡ vint w64 (length (take k l))
+  count-within n N least long = counted (within n N least long)

@@ -1,5 +1,5 @@
 // Processor time.
-use text::out;
+use words::number;
 
 // The processor time so far.
 pub fn now() -> i64 {
@@ -12,8 +12,8 @@ pub fn since(from: i64) -> u64 {
     if from < 0 || to < 0 {
         return 0;
     }
-    let before = out::magnitude(from);
-    let after = out::magnitude(to);
+    let before = number::magnitude(from);
+    let after = number::magnitude(to);
     if after < before {
         return 0;
     }

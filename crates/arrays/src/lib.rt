@@ -1,12 +1,14 @@
 // The broker's calls on lent lists, for a caller whose lists are arrays: each lends the first rows of
 // its arrays.
 ghost use mathlib.Core.Path.{_≡_};
-ghost use Prim.Native.Nat.{_≤_, min};
+ghost use Prim.Native.Nat.{min};
+ghost use Rattle.broker.specs.Lent.{buildFor};
+ghost use Rattle.lent.specs.Answers.{AnswersCheck, AnswersSend, AnswersWalk, AnswersUpdate};
+ghost use Rattle.arrays.specs.Arrays.{tradableIn, fetchedIn, weightsIn, ordersIn, lentOf, pastLent, blankEvents, blankOrders};
 
 pub mod clock;
 
 use broker::build::Built;
-use broker::send::OrderEvent;
 use broker::state::UistBroker;
 use costs::TradeCosts;
 use lent::uist;
@@ -15,6 +17,7 @@ use lent::uist::SendAnswer;
 use lent::uist::UpdateAnswer;
 use lent::uist::WalkAnswer;
 use market::order::Order;
+use market::order::OrderEvent;
 use market::quote::Quote;
 use market::trade::Trade;
 use market::weight::Weight;
@@ -50,7 +53,9 @@ pub fn at_most(n: usize, most: usize) -> usize
     if n < most { n } else { most }
 }
 
-pub fn no_events() -> [OrderEvent; 1024] {
+pub fn no_events() -> [OrderEvent; 1024]
+    ensures { λ r. ⌜ r ≡ blankEvents ⌝ }
+{
     let o = Order::market_sell(0, 0.0);
     let e = OrderEvent {
         order: o,
@@ -59,19 +64,25 @@ pub fn no_events() -> [OrderEvent; 1024] {
     [e; 1024]
 }
 
-pub fn no_orders() -> [Order; 1024] {
+pub fn no_orders() -> [Order; 1024]
+    ensures { λ r. ⌜ r ≡ blankOrders ⌝ }
+{
     let o = Order::market_sell(0, 0.0);
     [o; 1024]
 }
 
-pub fn checked(answer: CheckAnswer, micros: u64) -> CheckedList {
+pub fn checked(answer: CheckAnswer, micros: u64) -> CheckedList
+    ensures { λ r. ⌜ r ≡ record { answer = answer; micros = micros } ⌝ }
+{
     CheckedList {
         answer: answer,
         micros: micros,
     }
 }
 
-pub fn updated(answer: UpdateAnswer, events: [OrderEvent; 1024], micros: u64) -> UpdatedList {
+pub fn updated(answer: UpdateAnswer, events: [OrderEvent; 1024], micros: u64) -> UpdatedList
+    ensures { λ r. ⌜ r ≡ record { answer = answer; events = events; micros = micros } ⌝ }
+{
     UpdatedList {
         answer: answer,
         events: events,
@@ -79,14 +90,18 @@ pub fn updated(answer: UpdateAnswer, events: [OrderEvent; 1024], micros: u64) ->
     }
 }
 
-pub fn sent(answer: SendAnswer, events: [OrderEvent; 1024]) -> SentList {
+pub fn sent(answer: SendAnswer, events: [OrderEvent; 1024]) -> SentList
+    ensures { λ r. ⌜ r ≡ record { answer = answer; events = events } ⌝ }
+{
     SentList {
         answer: answer,
         events: events,
     }
 }
 
-pub fn walked(answer: WalkAnswer, orders: [Order; 1024]) -> WalkedList {
+pub fn walked(answer: WalkAnswer, orders: [Order; 1024]) -> WalkedList
+    ensures { λ r. ⌜ r ≡ record { answer = answer; orders = orders } ⌝ }
+{
     WalkedList {
         answer: answer,
         orders: orders,
@@ -111,7 +126,9 @@ pub struct Orders {
     pub room: usize,
 }
 
-pub fn orders_in(x: Orders) -> [Order; 1024] {
+pub fn orders_in(x: Orders) -> [Order; 1024]
+    ensures { λ r. ⌜ r ≡ x .list ⌝ }
+{
     x.list
 }
 
@@ -127,15 +144,21 @@ pub fn sent_rows(x: Orders) -> usize
     at_most(x.room, 1024)
 }
 
-pub fn tradable_in(x: Lists) -> [Quote; 512] {
+pub fn tradable_in(x: Lists) -> [Quote; 512]
+    ensures { λ r. ⌜ r ≡ x .tradable ⌝ }
+{
     x.tradable
 }
 
-pub fn fetched_in(x: Lists) -> [Quote; 512] {
+pub fn fetched_in(x: Lists) -> [Quote; 512]
+    ensures { λ r. ⌜ r ≡ x .fetched ⌝ }
+{
     x.fetched
 }
 
-pub fn weights_in(x: Lists) -> [Weight; 512] {
+pub fn weights_in(x: Lists) -> [Weight; 512]
+    ensures { λ r. ⌜ r ≡ x .weights ⌝ }
+{
     x.weights
 }
 
@@ -164,13 +187,18 @@ pub fn event_rows(x: Lists) -> usize
 }
 
 // A fresh broker for the lent log.
-pub fn build_on(costs: TradeCosts, x: Lists, log: &[Trade]) -> Built {
+pub fn build_on(costs: TradeCosts, x: Lists, log: &[Trade]) -> Built
+    ensures { λ r. ⌜ r ≡ buildFor costs (tradableIn x) (now (log .entry)) ⌝ }
+{
     let t = tradable_in(x);
     let k = tradable_rows(x);
     uist::build(costs, &t[..k], log)
 }
 
-pub fn check_on(b: UistBroker, x: Lists, log: &mut [Trade]) -> CheckedList {
+// A check; its time is left free.
+pub fn check_on(b: UistBroker, x: Lists, log: &mut [Trade]) -> CheckedList
+    ensures { λ r. ⌜ AnswersCheck b (tradableIn x) (fetchedIn x) (now (log .entry)) (r .answer) (now (log .exit)) ⌝ }
+{
     let t = tradable_in(x);
     let f = fetched_in(x);
     let k = tradable_rows(x);
@@ -181,7 +209,10 @@ pub fn check_on(b: UistBroker, x: Lists, log: &mut [Trade]) -> CheckedList {
     checked(y, micros)
 }
 
-pub fn send_on(b: UistBroker, x: Orders) -> SentList {
+// Sends a list of orders; past the entries lent the array of events stays blank.
+pub fn send_on(b: UistBroker, x: Orders) -> SentList
+    ensures { λ r. ⌜ AnswersSend b (ordersIn x) (lentOf (x .room) blankEvents) (r .answer) (lentOf (x .room) (r .events)) × (pastLent (x .room) (r .events) ≡ pastLent (x .room) blankEvents) ⌝ }
+{
     let o = orders_in(x);
     let k = order_rows(x);
     let r = sent_rows(x);
@@ -190,7 +221,10 @@ pub fn send_on(b: UistBroker, x: Orders) -> SentList {
     sent(y, events)
 }
 
-pub fn walk_on(b: UistBroker, x: Lists) -> WalkedList {
+// The walk alone; past the entries lent the array of orders stays blank.
+pub fn walk_on(b: UistBroker, x: Lists) -> WalkedList
+    ensures { λ r. ⌜ AnswersWalk b (weightsIn x) (lentOf (x .room) blankOrders) (r .answer) (lentOf (x .room) (r .orders)) × (pastLent (x .room) (r .orders) ≡ pastLent (x .room) blankOrders) ⌝ }
+{
     let w = weights_in(x);
     let m = weight_rows(x);
     let r = event_rows(x);
@@ -199,7 +233,10 @@ pub fn walk_on(b: UistBroker, x: Lists) -> WalkedList {
     walked(y, orders)
 }
 
-pub fn update_on(b: UistBroker, x: Lists, log: &mut [Trade]) -> UpdatedList {
+// An update; its time is left free, and past the entries lent the array of events stays blank.
+pub fn update_on(b: UistBroker, x: Lists, log: &mut [Trade]) -> UpdatedList
+    ensures { λ r. ⌜ AnswersUpdate b (tradableIn x) (fetchedIn x) (weightsIn x) (lentOf (x .room) blankEvents) (now (log .entry)) (r .answer) (lentOf (x .room) (r .events)) (now (log .exit)) × (pastLent (x .room) (r .events) ≡ pastLent (x .room) blankEvents) ⌝ }
+{
     let t = tradable_in(x);
     let f = fetched_in(x);
     let w = weights_in(x);

@@ -16,7 +16,7 @@ use Rattle.lists.specs.Lists.{over, All}
 use Rattle.lists.proofs.Over.{over-more}
 use Rattle.costs.specs.declared.TradeCosts.{TradeCosts}
 use Rattle.market.specs.Numbers.{Test, _draws_, drawn, unlessDrawn}
-use Rattle.market.specs.Orders.{orderTests}
+use Rattle.market.specs.Orders.{eventOf, orderTests}
 use Rattle.market.specs.Quotes.{noQuote}
 use Rattle.market.specs.Trades.{rowIf}
 use Rattle.market.specs.declared.order.OrderType.the-variants.{MarketSell}
@@ -33,11 +33,11 @@ use Rattle.rules.specs.Amounts.{isZero}
 use Rattle.rules.specs.Money.{unlessZero}
 use Rattle.rules.specs.Sends.{isMarket, poor, short, missing, sendTestsAt}
 use Rattle.broker.specs.State.{moneyOf}
-use Rattle.broker.specs.Send.{quoteIn, eventOf, eventAt, eventFor, pendingAfter, takenBy, sentOne, sentAll, eventsOf, noEvents, blankOrder, listed, SendsFit, sendAllOf}
+use Rattle.broker.specs.Send.{quoteIn, eventAt, eventFor, pendingAfter, takenBy, sentOne, sentAll, eventsOf, noEvents, blankOrder, listed, SendsFit, sendAllOf}
 use Rattle.broker.specs.declared.state.Funds.{Funds}
 use Rattle.broker.specs.declared.state.Portfolio.{Portfolio}
 use Rattle.broker.specs.declared.state.UistBroker.{UistBroker}
-use Rattle.broker.specs.declared.send.OrderEvent.{OrderEvent}
+use Rattle.market.specs.declared.order.OrderEvent.{OrderEvent}
 use Rattle.broker.specs.declared.send.Latest.{Latest}
 use Rattle.broker.specs.declared.send.Latest.the-variants.{At, Unquoted}
 use Rattle.broker.specs.declared.send.AtSymbol.{AtSymbol}

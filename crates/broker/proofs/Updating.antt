@@ -27,7 +27,7 @@ use Rattle.broker.specs.Check.{failedOf, shortfall, rescuedBy, checkNumb
 use Rattle.broker.specs.Weigh.{weighed, planIn}
 use Rattle.broker.specs.Update.{updateNumber, planAfter, weighedBy, updateRefused, Updates}
 use Rattle.broker.specs.declared.state.UistBroker.{UistBroker}
-use Rattle.broker.specs.declared.send.OrderEvent.{OrderEvent}
+use Rattle.market.specs.declared.order.OrderEvent.{OrderEvent}
 use Rattle.broker.specs.declared.send.OrderList.{OrderList}
 use Rattle.broker.specs.declared.send.SentAll.{SentAll}
 use Rattle.broker.specs.declared.check.Checked.{Checked}

@@ -18,7 +18,7 @@ use Rattle.market.specs.Numbers.{drawn, unlessDrawn}
 use Rattle.market.specs.Orders.{zero64, isSell, marketOrder}
 use Rattle.market.specs.Quotes.{noQuote, rowAt}
 use Rattle.market.specs.Trades.{rowIf}
-use Rattle.market.specs.Weights.{weightTests}
+use Rattle.market.specs.Weights.{weightTests, weightRows}
 use Rattle.market.specs.declared.order.OrderType.the-variants.{MarketSell, MarketBuy}
 use Rattle.market.specs.declared.order.Order.{Order}
 use Rattle.market.specs.declared.quote.Quote.{Quote}
@@ -39,7 +39,7 @@ use Rattle.rules.specs.Values.{valueAt, valueOf, liquidationValue}
 use Rattle.rules.specs.Weights.{sharesFor, orderFor, difference, wanted, planOf}
 use Rattle.broker.specs.State.{moneyOf, amountIn}
 use Rattle.broker.specs.Send.{listed, noOrders}
-use Rattle.broker.specs.Weigh.{weightRows, goodRows, weightsOf, weighed, orderIn, ontoOf}
+use Rattle.broker.specs.Weigh.{goodRows, weightsOf, weighed, orderIn, ontoOf}
 use Rattle.broker.specs.declared.send.OrderList.{OrderList}
 use Rattle.broker.specs.declared.state.Portfolio.{Portfolio}
 use Rattle.broker.specs.declared.value.Amount.{Amount}

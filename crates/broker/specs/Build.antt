@@ -1,25 +1,19 @@
 -- The builder: document 01, section 4, and the builder's numbers. Definitions only.
 use Prim.Native.Nat.{ℕ}
-use mathlib.Core.Bool.{Bool, not}
+use mathlib.Core.Bool.{not}
 use mathlib.Core.List.{List, [], _∷_}
 use lib.Dec.{ltb}
-use lib.Ieee.Scale.{finite}
 use Rattle.market.specs.Numbers.{Test, _draws_, drawn, unlessDrawn}
 use Rattle.market.specs.Quotes.{emptyTable}
 use Rattle.market.specs.declared.table.Table.{Table}
 use Rattle.costs.specs.declared.BrokerCost.{BrokerCost}
-use Rattle.costs.specs.declared.BrokerCost.the-variants.{PerShare, PctOfValue, Flat}
 use Rattle.costs.specs.declared.TradeCosts.{TradeCosts}
+use Rattle.costs.specs.Costs.{isFinite}
 use Rattle.costs.specs.Kept.{costsOf, noCosts}
 use Rattle.exchange.specs.State.{fresh}
 use Rattle.broker.specs.State.{noFunds}
 use Rattle.broker.specs.declared.state.UistBroker.{UistBroker}
 use Rattle.broker.specs.declared.build.Built.{Built}
-
-abbrev pub isFinite : BrokerCost → Bool
-isFinite (PerShare x) = finite x
-isFinite (PctOfValue x) = finite x
-isFinite (Flat x) = finite x
 
 abbrev pub eachFinite : List BrokerCost → List Test
 eachFinite [] = []

@@ -4,7 +4,7 @@ use mathlib.Core.Bool.{Bool, true, false, not, _||_, cond}
 use mathlib.Core.Path.{_≡_}
 use mathlib.Core.List.{foldl}
 use lib.Dec.{eqb}
-use lib.Ieee.{Float, nan, binary64, ofBits}
+use lib.Ieee.{Float, nan}
 use lib.ListN.{length, getD, set}
 use Rattle.lists.specs.Lists.{each}
 use Rattle.market.specs.Numbers.{unlessDrawn}
@@ -16,6 +16,7 @@ use Rattle.exchange.specs.State.{brokenOf, restingOf}
 use Rattle.exchange.specs.Tick.{tradesOf, ticked, tickOf}
 use Rattle.exchange.specs.declared.state.Counts.{Counts}
 use Rattle.rules.specs.Amounts.{plus, negated, below, isZero}
+use Rattle.rules.specs.Liquidation.{buffer}
 use Rattle.rules.specs.Money.{adding, taking, paid, orZero, unlessZero}
 use Rattle.broker.specs.State.{pendingIf, moneyOf}
 use Rattle.broker.specs.Send.{withFunds}
@@ -73,10 +74,6 @@ failFunds f = record { holding = f .holding; pending = f .pending; awaited = f .
 
 unfoldable pub failedOf : UistBroker → UistBroker
 failedOf b = withFunds b (failFunds (b .portfolio .funds))
-
--- the 1,000.0 added to a shortfall
-abbrev pub buffer : Float
-buffer = ofBits binary64 4652007308841189376
 
 abbrev pub shortfall : UistBroker → Float
 shortfall b = plus (negated (cashOf b)) buffer

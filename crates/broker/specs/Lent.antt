@@ -10,6 +10,7 @@ use Rattle.lists.specs.Lists.{over, stored, given}
 use Rattle.market.specs.Numbers.{Test, _draws_, drawn, unlessDrawn}
 use Rattle.market.specs.Orders.{zero64}
 use Rattle.market.specs.Quotes.{tableTests, tableOf, rowAt}
+use Rattle.market.specs.Weights.{weightRows}
 use Rattle.market.specs.declared.order.Order.{Order}
 use Rattle.market.specs.declared.quote.Quote.{Quote}
 use Rattle.market.specs.declared.trade.Trade.{Trade}
@@ -23,11 +24,10 @@ use Rattle.broker.specs.Build.{buildOf}
 use Rattle.broker.specs.Send.{sentAll, eventsOf}
 use Rattle.broker.specs.Liquidate.{heldCount}
 use Rattle.broker.specs.Check.{checkedBy, bookedBy}
-use Rattle.broker.specs.Weigh.{weightRows}
 use Rattle.broker.specs.Update.{planAfter, weighedBy}
 use Rattle.broker.specs.declared.state.UistBroker.{UistBroker}
 use Rattle.broker.specs.declared.build.Built.{Built}
-use Rattle.broker.specs.declared.send.OrderEvent.{OrderEvent}
+use Rattle.market.specs.declared.order.OrderEvent.{OrderEvent}
 
 abbrev pub buildFor : TradeCosts → List Quote → List Trade → Built
 buildFor costs first log = buildOf costs (tableOf first) (length log)

@@ -7,7 +7,7 @@ use lib.Ieee.{Float, nan}
 use lib.ListN.{getD, set, take, replicate}
 use Rattle.lists.specs.Lists.{over, given}
 use Rattle.market.specs.Numbers.{drawn, unlessDrawn}
-use Rattle.market.specs.Orders.{zero64, marketOrder, orderTests}
+use Rattle.market.specs.Orders.{zero64, marketOrder, eventOf, orderTests}
 use Rattle.market.specs.Trades.{rowIf}
 use Rattle.market.specs.declared.order.OrderType.the-variants.{MarketSell}
 use Rattle.market.specs.declared.order.Order.{Order}
@@ -24,7 +24,7 @@ use Rattle.broker.specs.State.{pendingIf, moneyOf}
 use Rattle.broker.specs.declared.state.Funds.{Funds}
 use Rattle.broker.specs.declared.state.Portfolio.{Portfolio}
 use Rattle.broker.specs.declared.state.UistBroker.{UistBroker}
-use Rattle.broker.specs.declared.send.OrderEvent.{OrderEvent}
+use Rattle.market.specs.declared.order.OrderEvent.{OrderEvent}
 use Rattle.broker.specs.declared.send.Sent.{Sent}
 use Rattle.broker.specs.declared.send.BrokerDeleted.{BrokerDeleted}
 use Rattle.broker.specs.declared.send.Latest.{Latest}
@@ -37,10 +37,6 @@ use Rattle.broker.specs.declared.send.SentAll.{SentAll}
 abbrev pub quoteIn : Latest → Option Quote
 quoteIn (At q) = some q
 quoteIn Unquoted = none
-
--- the order with taken (0) or its number
-abbrev pub eventOf : Order → ℕ → OrderEvent
-eventOf o n = record { order = o; number = n }
 
 -- an order's event by what its tests read
 unfoldable pub eventAt : Order → Bool → Float → AtSymbol → Counts → OrderEvent

@@ -5,8 +5,8 @@ use mathlib.Core.List.{List, [], _∷_, _++_}
 use mathlib.Core.Option.{Option, none, some}
 use lib.ListN.{length, take}
 use Rattle.lists.specs.Lists.{over}
-use Rattle.market.specs.Numbers.{Test, drawn, unlessDrawn}
-use Rattle.market.specs.Weights.{weightTests}
+use Rattle.market.specs.Numbers.{drawn, unlessDrawn}
+use Rattle.market.specs.Weights.{weightTests, weightRows}
 use Rattle.market.specs.declared.order.Order.{Order}
 use Rattle.market.specs.declared.weight.Weight.{Weight}
 use Rattle.broker.specs.Send.{listed}
@@ -15,11 +15,7 @@ use Rattle.broker.specs.declared.weigh.Weights.{Weights}
 use Rattle.broker.specs.declared.weigh.Wanted.{Wanted}
 use Rattle.broker.specs.declared.weigh.Plan.{Plan}
 
--- the number that rows of weights draw, and how many stand before the row that draws it
-abbrev pub weightRows : ℕ → List Weight → List Test
-weightRows least [] = []
-weightRows least (w ∷ l) = weightTests least w ++ weightRows (w .symbol + 1) l
-
+-- how many rows of weights stand before the first that draws a number
 unfoldable pub goodRows : ℕ → List Weight → ℕ
 goodRows least [] = 0
 goodRows least (w ∷ l) = unlessDrawn (drawn (weightTests least w)) (1 + goodRows (w .symbol + 1) l) 0

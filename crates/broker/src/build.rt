@@ -2,7 +2,8 @@
 ghost use mathlib.Core.Path.{_≡_};
 ghost use Rattle.market.specs.Numbers.{drawn};
 ghost use Rattle.costs.specs.Kept.{costsOf};
-ghost use Rattle.broker.specs.Build.{isFinite, costTests, noBroker, buildOf};
+ghost use Rattle.costs.specs.Costs.{isFinite};
+ghost use Rattle.broker.specs.Build.{costTests, noBroker, buildOf};
 use crate::state::Funds;
 use crate::state::Portfolio;
 use crate::state::UistBroker;

@@ -2,11 +2,12 @@
 ghost use mathlib.Core.Path.{_≡_};
 ghost use mathlib.Core.Bool.{cond};
 ghost use mathlib.Core.Option.{some};
+ghost use Rattle.market.specs.Orders.{eventOf};
 ghost use Rattle.market.specs.Trades.{rowIf};
 ghost use Rattle.exchange.specs.State.{brokenOf};
 ghost use Rattle.rules.specs.Money.{unlessZero};
 ghost use Rattle.rules.specs.Sends.{isMarket, poor, short};
-ghost use Rattle.broker.specs.Send.{quoteIn, eventOf, eventAt, pendingAfter, withPending, noEvents, noOrders, listed, SendsFit, sentAll, sendAllOf, sendOf, insertOf, deleteOf};
+ghost use Rattle.broker.specs.Send.{quoteIn, eventAt, pendingAfter, withPending, noEvents, noOrders, listed, SendsFit, sentAll, sendAllOf, sendOf, insertOf, deleteOf};
 use crate::state::Funds;
 use crate::state::Portfolio;
 use crate::state::UistBroker;
@@ -14,14 +15,9 @@ use exchange::state::Booked;
 use exchange::state::Counts;
 use exchange::state::UistV1;
 use market::order::Order;
+use market::order::OrderEvent;
 use market::order::OrderType;
 use market::quote::Quote;
-
-// The order, with 0 where it was taken or the number that it drew.
-pub struct OrderEvent {
-    pub order: Order,
-    pub number: u32,
-}
 
 pub struct Sent {
     pub broker: UistBroker,

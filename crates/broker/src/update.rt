@@ -9,12 +9,12 @@ ghost use Rattle.broker.specs.Send.{listed};
 ghost use Rattle.broker.specs.Weigh.{planIn};
 ghost use Rattle.broker.specs.Update.{updateNumber, updateRefused, Updates};
 use crate::send;
-use crate::send::OrderEvent;
 use crate::send::OrderList;
 use crate::state::UistBroker;
 use crate::weigh::Plan;
 use crate::weigh::Weights;
 use exchange::state::Counts;
+use market::order::OrderEvent;
 use market::table::Table;
 use market::trade::Trade;
 

@@ -3,6 +3,7 @@ use mathlib.Core.Bool.{Bool, true, false}
 use mathlib.Core.List.{List, foldl}
 use lib.Ieee as Ieee
 use lib.Ieee.{Float, binary64}
+use lib.Ieee.Scale.{finite}
 use Rattle.costs.specs.declared.BrokerCost.{BrokerCost}
 use Rattle.costs.specs.declared.BrokerCost.the-variants.{PerShare, PctOfValue, Flat}
 use Rattle.costs.specs.declared.Impact.{Impact}
@@ -42,3 +43,9 @@ chargeStep quantity value sum c = Ieee.add binary64 sum (calc c quantity value)
 -- `calculate_trade_costs` adds each cost's charge, in order, from 0.0
 unfoldable pub tradeCosts : List BrokerCost → Float → Float → Float
 tradeCosts costs quantity value = foldl (chargeStep quantity value) zero64 costs
+
+-- a cost whose figure is finite
+abbrev pub isFinite : BrokerCost → Bool
+isFinite (PerShare x) = finite x
+isFinite (PctOfValue x) = finite x
+isFinite (Flat x) = finite x

@@ -7,10 +7,10 @@ use mathlib.Core.Path.{_≡_, refl, _∙_, sym, ap, ap₂, subst}
 use mathlib.Core.List.{List, [], _∷_, _++_}
 use mathlib.Core.Option.{none, some}
 use lib.Dec.{eqb}
-use lib.ListN.{length, length-replicate}
+use lib.ListN.{length, take, length-replicate}
 use borrow.Author.Tests.{eq-eqb, eqb-false}
 use Rattle.lists.specs.Lists.{over, stored}
-use Rattle.lists.proofs.Over.{length-over, stored-over}
+use Rattle.lists.proofs.Over.{length-over, take-over, stored-over}
 use Rattle.market.specs.Numbers.{_draws_, drawn, unlessDrawn}
 use Rattle.market.specs.Orders.{orderTests}
 use Rattle.market.specs.Quotes.{tableTests, rowFor}
@@ -19,15 +19,15 @@ use Rattle.market.specs.declared.quote.Quote.{Quote}
 use Rattle.market.specs.declared.trade.Trade.{Trade}
 use Rattle.market.proofs.Numbers.{order-numbered, append-none, none-drawn}
 use Rattle.orders.specs.Orders as Ledger
-use Rattle.orders.specs.Orders.{Orders, noOrders, restingIn, takeOn, erase, fillsOf}
+use Rattle.orders.specs.Orders.{Taken, plain, Orders, noOrders, restingIn, takeOn, erase, fillsOf}
 use Rattle.orders.proofs.Shape.{Shape, Kept, kept, quiet, acting, erasing}
 use Rattle.orders.proofs.Lives as Lives
 use Rattle.exchange.specs.State.{fresh, blankBooked, brokenOf, restingOf}
 use Rattle.exchange.specs.Insert.{insertTests, joined, insertOf}
 use Rattle.exchange.specs.Delete.{deleteOf}
 use Rattle.exchange.specs.Tick.{tradesOf, ticked}
-use Rattle.exchange.specs.Lent.{lentTests, lentTick, lentLog}
-use Rattle.exchange.specs.Runs.{Call, insert, delete, tick, Held, opened, step, answer, run, answers, takeTests, ledgerStep, ledgerAnswer, ledgerRun, ledgerAnswers, tradable, deletes, exchangeCalls, ExchangeRun}
+use Rattle.exchange.specs.Lent.{logTest, lentTests, lentTick, lentLog}
+use Rattle.exchange.specs.Runs.{Call, insert, delete, tick, Held, opened, step, answer, run, answers, takeTests, ledgerStep, ledgerAnswer, takesIn, ledgerRun, ledgerAnswers, tradable, deletes, exchangeCalls, ledgerAfter, takesAfter, ExchangeRun}
 use Rattle.exchange.proofs.Counting.{sound-not-broken}
 use Rattle.exchange.proofs.Books.{Books, books-take, books-delete, books-trades, books-tick}
 
@@ -64,7 +64,7 @@ module _ (l₀ : List Trade) (s : Held) (b : Orders) (m : Meets l₀ s b) where
       (ap₂ (λ x y. eqb (x + y) 1024) (r .rest-count) (r .wait-count))
 
   taken-by : (o : Order) (n : ℕ) → drawn (takeTests (length l₀) b o) ≡ n →
-      Meets l₀ (record { exchange = unlessDrawn n (joined (s .exchange) o) (s .exchange); log = s .log }) (unlessDrawn n (takeOn o b) b)
+      Meets l₀ (record { exchange = unlessDrawn n (joined (s .exchange) o) (s .exchange); log = s .log }) (unlessDrawn n (takeOn (plain o) b) b)
   taken-by o (suc n) e = m
   taken-by o zero e =
       let room-none = append-none (orderTests o) _ (order-numbered o) e .1 in
@@ -81,7 +81,7 @@ module _ (l₀ : List Trade) (s : Held) (b : Orders) (m : Meets l₀ s b) where
   unfolding insertOf
   insert-meets o =
       let n = drawn (takeTests (length l₀) b o) in
-      subst (λ k. Meets l₀ (record { exchange = unlessDrawn k (joined (s .exchange) o) (s .exchange); log = s .log }) (unlessDrawn n (takeOn o b) b))
+      subst (λ k. Meets l₀ (record { exchange = unlessDrawn k (joined (s .exchange) o) (s .exchange); log = s .log }) (unlessDrawn n (takeOn (plain o) b) b))
       (sym (insert-number o)) (taken-by o n refl)
 
   insert-answer : (o : Order) → answer s (insert o) ≡ ledgerAnswer (length l₀) b (insert o)
@@ -102,6 +102,10 @@ module _ (l₀ : List Trade) (s : Held) (b : Orders) (m : Meets l₀ s b) where
 
   log-length : length (s .log) ≡ length l₀
   log-length = ap length (m .log) ∙ length-over (b .trades) l₀ (omega (arith, m .books .fit .traded, m .books .fit .room-left))
+
+  pub no-sixteen : drawn (logTest (s .exchange) (s .log) ∷ []) ≡ 0
+  unfolding drawn
+  no-sixteen = ap₂ (λ x y. drawn (((not x || y) draws 16) ∷ [])) (eq-eqb _ _ (log-length ∙ sym (m .books .room-is))) unbroken
 
   tick-number : (rows : List Quote) → drawn (lentTests (s .exchange) rows (s .log)) ≡ drawn (tableTests 0 rows)
   unfolding drawn
@@ -180,18 +184,19 @@ ledger-last : (room : ℕ) (b : Orders) (cs : List Call) (c : Call) → ledgerRu
 ledger-last room b [] c = refl
 ledger-last room b (d ∷ cs) c = ledger-last room (ledgerStep room b d) cs c
 
-kept-unless : (n : ℕ) (b d : Orders) → Kept b d → Kept b (unlessDrawn n d b)
-kept-unless zero b d k = k
-kept-unless (suc n) b d k = kept b
+kept-unless : (n : ℕ) (b d : Orders) (new : List Taken) → Kept b new d → Kept b (unlessDrawn n new []) (unlessDrawn n d b)
+kept-unless zero b d new k = k
+kept-unless (suc n) b d new k = kept b
 
-tick-shape : (b : Orders) (rows : List Quote) (n : ℕ) → drawn (tableTests 0 rows) ≡ n → Shape exchangeCalls b (tick rows) (unlessDrawn n (Ledger.tick rows b) b)
-tick-shape b rows zero e = acting exchangeCalls b _ (tick rows) rows (λ n. refl) (ap (λ n. unlessDrawn n (some rows) none) e) (kept (Ledger.tick rows b))
-tick-shape b rows (suc n) e = quiet exchangeCalls b _ (tick rows) (λ n. refl) (ap (λ n. unlessDrawn n (some rows) none) e) (kept b)
+tick-shape : (b : Orders) (rows : List Quote) (n : ℕ) → drawn (tableTests 0 rows) ≡ n → Shape exchangeCalls b (tick rows) [] (unlessDrawn n (Ledger.tick rows b) b)
+tick-shape b rows zero e = acting exchangeCalls b _ (tick rows) [] rows (λ n. refl) (ap (λ n. unlessDrawn n (some rows) none) e) (kept (Ledger.tick rows b))
+tick-shape b rows (suc n) e = quiet exchangeCalls b _ (tick rows) [] (λ n. refl) (ap (λ n. unlessDrawn n (some rows) none) e) (kept b)
 
-step-shape : (room : ℕ) (b : Orders) (c : Call) → Shape exchangeCalls b c (ledgerStep room b c)
+step-shape : (room : ℕ) (b : Orders) (c : Call) → Shape exchangeCalls b c (takesIn room b c) (ledgerStep room b c)
 step-shape room b (insert o) =
-    quiet exchangeCalls b _ (insert o) (λ n. refl) refl (kept-unless (drawn (takeTests room b o)) b (takeOn o b) (record { booked = refl; trades = refl }))
-step-shape room b (delete n) = erasing exchangeCalls b _ (delete n) n (λ k. refl) refl (kept (erase n b))
+    quiet exchangeCalls b _ (insert o) _ (λ n. refl) refl
+    (kept-unless (drawn (takeTests room b o)) b (takeOn (plain o) b) (plain o ∷ []) (record { waiting = refl; booked = refl; trades = refl }))
+step-shape room b (delete n) = erasing exchangeCalls b _ (delete n) [] n (λ k. refl) refl (kept (erase n b))
 step-shape room b (tick rows) = tick-shape b rows (drawn (tableTests 0 rows)) refl
 
 apart : (n : ℕ) (c : Call) → deletes n c ≡ true → tradable c ≡ none
@@ -199,14 +204,13 @@ apart n (insert o) e = refl
 apart n (delete m) e = refl
 apart n (tick rows) e = absurd (let z : _≡_ {A = ℕ} 0 1 = cc in omega arith)
 
-ledger-runs : (room : ℕ) → Lives.Runs exchangeCalls (ledgerRun room noOrders)
+ledger-runs : (room : ℕ) → Lives.Runs exchangeCalls (takesAfter room) (ledgerAfter room)
 ledger-runs room =
     record {
       apart = record { apart = apart };
-      none-booked = refl;
-      none-traded = refl;
+      starts = refl;
       shape = λ past c.
-          subst (λ d. Shape exchangeCalls (ledgerRun room noOrders past) c d) (sym (ledger-last room noOrders past c)) (step-shape room (ledgerRun room noOrders past) c);
+          subst (Shape exchangeCalls (ledgerAfter room past) c (takesAfter room past c)) (sym (ledger-last room noOrders past c)) (step-shape room (ledgerAfter room past) c);
     }
 
 -- ---- the theorem: for a log of any length that a slice has, and every list of calls, refused ones included
@@ -215,9 +219,13 @@ pub exchange-run : (l₀ : List Trade) → length l₀ < 2 ^ 64 → (cs : List C
 exchange-run l₀ h cs =
     let m = run-meets l₀ h (opened l₀) noOrders cs (opened-meets l₀) in
     record {
-      lived = Lives.lived exchangeCalls (ledgerRun (length l₀) noOrders) (ledger-runs (length l₀)) cs;
+      lived = Lives.lived exchangeCalls (takesAfter (length l₀)) (ledgerAfter (length l₀)) (ledger-runs (length l₀)) cs;
       answered = run-answers l₀ h (opened l₀) noOrders cs (opened-meets l₀);
       log = m .log;
+      logged =
+          ap (take (run (opened l₀) cs .exchange .counts .logged)) (m .log)
+          ∙ take-over (ledgerAfter (length l₀) cs .trades) l₀ (run (opened l₀) cs .exchange .counts .logged) (sym (m .books .logged-is));
       rest = m .books .rest;
       wait = m .books .wait;
+      sound = no-sixteen l₀ (run (opened l₀) cs) (ledgerAfter (length l₀) cs) m;
     }

@@ -17,9 +17,13 @@ use Rattle.exchange.specs.declared.tick.TickAnswer.{TickAnswer}
 abbrev pub openOf : List Trade → UistV1
 openOf log = fresh (length log)
 
--- lender: 16 where the log's length is not that of the start, or where the counts do not hold together; then the rows: 1, 2, 3
+-- lender: 16 where the log's length is not that of the start, or where the counts do not hold together
+abbrev pub logTest : UistV1 → List Trade → Test
+logTest e log = (not (eqb (length log) (e .counts .room)) || brokenOf (e .counts)) draws 16
+
+-- 16, then the rows: 1, 2, 3
 abbrev pub lentTests : UistV1 → List Quote → List Trade → List Test
-lentTests e rows log = ((not (eqb (length log) (e .counts .room)) || brokenOf (e .counts)) draws 16) ∷ tableTests 0 rows
+lentTests e rows log = logTest e log ∷ tableTests 0 rows
 
 -- a tick answers how many orders traded; a refusal changes nothing
 unfoldable pub lentTick : UistV1 → List Quote → List Trade → TickAnswer

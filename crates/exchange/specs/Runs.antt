@@ -5,7 +5,7 @@ use mathlib.Core.Path.{_≡_}
 use mathlib.Core.List.{List, [], _∷_, _++_}
 use mathlib.Core.Option.{Option, none, some}
 use lib.Dec.{eqb}
-use lib.ListN.{length}
+use lib.ListN.{length, take}
 use Rattle.lists.specs.Lists.{over}
 use Rattle.market.specs.Numbers.{Test, _draws_, drawn, unlessDrawn}
 use Rattle.market.specs.Orders.{orderTests}
@@ -14,12 +14,12 @@ use Rattle.market.specs.declared.order.Order.{Order}
 use Rattle.market.specs.declared.quote.Quote.{Quote}
 use Rattle.market.specs.declared.trade.Trade.{Trade}
 use Rattle.orders.specs.Orders as Ledger
-use Rattle.orders.specs.Orders.{Fate, resting, traded, deleted, Entry, Orders, noOrders, restingIn, takeOn, erase, fillsOf}
+use Rattle.orders.specs.Orders.{Taken, plain, ordersOf, Fate, resting, ended, Entry, Orders, noOrders, restingIn, takeOn, erase, fillsOf}
 use Rattle.orders.specs.Claim.{Calls, Lived}
 use Rattle.exchange.specs.State.{restingOf, waitingOf}
 use Rattle.exchange.specs.Insert.{insertOf}
 use Rattle.exchange.specs.Delete.{deleteOf}
-use Rattle.exchange.specs.Lent.{openOf, lentTick, lentLog}
+use Rattle.exchange.specs.Lent.{openOf, logTest, lentTick, lentLog}
 use Rattle.exchange.specs.declared.state.Booked.{Booked}
 use Rattle.exchange.specs.declared.state.UistV1.{UistV1}
 
@@ -73,9 +73,15 @@ takeTests room b o =
     (eqb (restingIn (b .booked) + length (b .waiting)) 1024 draws 11) ∷ []
 
 abbrev pub ledgerStep : ℕ → Orders → Call → Orders
-ledgerStep room b (insert o) = unlessDrawn (drawn (takeTests room b o)) (takeOn o b) b
+ledgerStep room b (insert o) = unlessDrawn (drawn (takeTests room b o)) (takeOn (plain o) b) b
 ledgerStep room b (delete n) = erase n b
 ledgerStep room b (tick rows) = unlessDrawn (drawn (tableTests 0 rows)) (Ledger.tick rows b) b
+
+-- the orders that a call takes: an insertion that draws no number
+abbrev pub takesIn : ℕ → Orders → Call → List Taken
+takesIn room b (insert o) = unlessDrawn (drawn (takeTests room b o)) (plain o ∷ []) []
+takesIn room b (delete n) = []
+takesIn room b (tick rows) = []
 
 abbrev pub ledgerAnswer : ℕ → Orders → Call → Answer
 ledgerAnswer room b (insert o) = record { traded = 0; number = drawn (takeTests room b o) }
@@ -110,19 +116,30 @@ exchangeCalls = record { Call = Call; tradable = tradable; deletes = deletes }
 -- the ledger's resting orders with their numbers
 abbrev pub restOf : Fate → ℕ → Order → List Booked → List Booked
 restOf resting n o l = record { number = n; order = o } ∷ l
-restOf (traded x) n o l = l
-restOf deleted n o l = l
+restOf (ended x) n o l = l
 
 abbrev pub restingFrom : ℕ → List Entry → List Booked
 restingFrom n [] = []
-restingFrom n (e ∷ l) = restOf (e .fate) n (e .order) (restingFrom (suc n) l)
+restingFrom n (e ∷ l) = restOf (e .fate) n (e .taken .order) (restingFrom (suc n) l)
+
+-- after a list of calls from the start, for a log of `room` rows
+abbrev pub ledgerAfter : ℕ → List Call → Orders
+ledgerAfter room cs = ledgerRun room noOrders cs
+
+-- the orders that a call takes after the calls before it
+abbrev pub takesAfter : ℕ → List Call → Call → List Taken
+takesAfter room past c = takesIn room (ledgerAfter room past) c
 
 -- what holds of every list of calls on a fresh exchange for the log l₀:
--- each order has traded exactly when it could, once, in the first tick that could trade it, at that row, and the trades are these, tick by tick;
--- every answer is the ledger's; the log has the trades in order, then its old rows; the resting orders with their numbers and the waiting ones are the ledger's
+-- each order taken waits until the next tick, which books it, and has traded exactly when it could, once, in the first tick that could trade it, at that row,
+-- and the trades are these, tick by tick;
+-- every answer is the ledger's; the log has the trades in order, then its old rows, and the rows that count as logged are the trades and no others;
+-- the resting orders with their numbers and the waiting ones are the ledger's; no call that follows draws 16
 pub record ExchangeRun (l₀ : List Trade) (cs : List Call) : Type 0 where
-  pub lived : Lived exchangeCalls (ledgerRun (length l₀) noOrders) cs
+  pub lived : Lived exchangeCalls (takesAfter (length l₀)) (ledgerAfter (length l₀)) cs
   pub answered : answers (opened l₀) cs ≡ ledgerAnswers (length l₀) noOrders cs
-  pub log : run (opened l₀) cs .log ≡ over (ledgerRun (length l₀) noOrders cs .trades) l₀
-  pub rest : restingOf (run (opened l₀) cs .exchange) ≡ restingFrom 0 (ledgerRun (length l₀) noOrders cs .booked)
-  pub wait : waitingOf (run (opened l₀) cs .exchange) ≡ ledgerRun (length l₀) noOrders cs .waiting
+  pub log : run (opened l₀) cs .log ≡ over (ledgerAfter (length l₀) cs .trades) l₀
+  pub logged : take (run (opened l₀) cs .exchange .counts .logged) (run (opened l₀) cs .log) ≡ ledgerAfter (length l₀) cs .trades
+  pub rest : restingOf (run (opened l₀) cs .exchange) ≡ restingFrom 0 (ledgerAfter (length l₀) cs .booked)
+  pub wait : waitingOf (run (opened l₀) cs .exchange) ≡ ordersOf (ledgerAfter (length l₀) cs .waiting)
+  pub sound : drawn (logTest (run (opened l₀) cs .exchange) (run (opened l₀) cs .log) ∷ []) ≡ 0

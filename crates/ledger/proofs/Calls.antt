@@ -21,7 +21,7 @@ use Rattle.market.specs.declared.trade.Trade.{Trade}
 use Rattle.market.specs.declared.weight.Weight.{Weight}
 use Rattle.market.proofs.Numbers.{table-numbered, numbered-append, append-none, none-drawn}
 use Rattle.account.specs.declared.BrokerCashEvent.the-variants.{WithdrawSuccess, WithdrawFailure, DepositSuccess, OperationFailure, NotFinite}
-use Rattle.orders.specs.Orders.{fillsOf}
+use Rattle.orders.specs.Orders.{Taken, fillsOf}
 use Rattle.exchange.specs.State.{brokenOf}
 use Rattle.rules.specs.Amounts.{plus, minus, below}
 use Rattle.rules.specs.Money.{withCash}
@@ -35,15 +35,15 @@ use Rattle.broker.specs.Cash.{answered, cashOf, cashMoved, depositOf, withdrawO
 use Rattle.broker.specs.Liquidate as Liquidate
 use Rattle.broker.specs.Liquidate.{liquidatedBy, liquidateOf}
 use Rattle.broker.specs.Check.{checkedBy}
-use Rattle.broker.specs.Weigh.{weightRows}
+use Rattle.market.specs.Weights.{weightRows}
 use Rattle.broker.specs.Update.{weighedBy}
 use Rattle.broker.specs.Lent.{sendListNumber, sendListBroker, sendListEvents, checkFor, tradesIn, logWith, checkBroker, checkTraded, checkLog, updateFor, checkedOn, planOn, updateNumberOf, updateBroker, updateTotal, updateSent, updateEvents, updateLog}
 use Rattle.broker.specs.declared.state.UistBroker.{UistBroker}
-use Rattle.broker.specs.declared.send.OrderEvent.{OrderEvent}
+use Rattle.market.specs.declared.order.OrderEvent.{OrderEvent}
 use Rattle.broker.specs.declared.cash.CashMoved.{CashMoved}
-use Rattle.ledger.specs.Calls.{Call, deposit, withdraw, liquidate, send, sendList, insert, delete, check, update, Answer, number, moved, event, events, traded, updated}
+use Rattle.ledger.specs.Calls.{Call, deposit, withdraw, liquidate, send, sendList, insert, delete, check, update, Answer, number, deposited, withdrawn, refused, event, events, traded, updated}
 use Rattle.ledger.specs.Ledger as Ledger
-use Rattle.ledger.specs.Ledger.{Ledger, withMoney, sendingAll, sendEvents, liquidating, checking, afterWeights, checkTests, updateTests, callTests, acting, weighAnswer, answerAs}
+use Rattle.ledger.specs.Ledger.{Ledger, withMoney, sendingAll, sendEvents, liquidating, checking, afterWeights, checkTests, updateTests, callTests, acting, weighAnswer, answerAs, movedAs}
 use Rattle.ledger.specs.Program as Program
 use Rattle.ledger.specs.Program.{Held, cashAnswer}
 use Rattle.ledger.proofs.Kept as Kept
@@ -76,17 +76,18 @@ module _ (b : UistBroker) (L : Ledger) (m : Stands b L) (a : Float) where
   moving-by true false rest done M k = k
   moving-by false fb rest done M k = m
 
-  number-by : (fa fb : Bool) (rest : List Test) (done : CashMoved) → cashAnswer (done .event) ≡ moved (drawn rest) a → cashAnswer (moving fa fb done .event) ≡ moved (drawn (movingTests fa fb rest)) a
+  number-by : (success : Float → Answer) (fa fb : Bool) (rest : List Test) (done : CashMoved) → cashAnswer (done .event) ≡ movedAs success (drawn rest) a →
+      cashAnswer (moving fa fb done .event) ≡ movedAs success (drawn (movingTests fa fb rest)) a
   unfolding drawn
-  number-by true true rest done k = refl
-  number-by true false rest done k = k
-  number-by false fb rest done k = refl
+  number-by success true true rest done k = refl
+  number-by success true false rest done k = k
+  number-by success false fb rest done k = refl
 
-  cash-moves : (rest : List Test) (done : CashMoved) (M : Ledger) → Stands (done .broker) (unlessDrawn (drawn rest) M L) → cashAnswer (done .event) ≡ moved (drawn rest) a →
-      Stands (cashMoved b a done .broker) (unlessDrawn (drawn (movingTests (finite a) (L .money .failed) rest)) M L) × (cashAnswer (cashMoved b a done .event) ≡ moved (drawn (movingTests (finite a) (L .money .failed) rest)) a)
-  cash-moves rest done M k n = (
+  cash-moves : (success : Float → Answer) (rest : List Test) (done : CashMoved) (M : Ledger) → Stands (done .broker) (unlessDrawn (drawn rest) M L) → cashAnswer (done .event) ≡ movedAs success (drawn rest) a →
+      Stands (cashMoved b a done .broker) (unlessDrawn (drawn (movingTests (finite a) (L .money .failed) rest)) M L) × (cashAnswer (cashMoved b a done .event) ≡ movedAs success (drawn (movingTests (finite a) (L .money .failed) rest)) a)
+  cash-moves success rest done M k n = (
     subst (λ x. Stands (x .broker) (unlessDrawn (drawn (movingTests (finite a) (L .money .failed) rest)) M L)) (sym (moved-is done)) (moving-by (finite a) (L .money .failed) rest done M k),
-    ap (λ x. cashAnswer (x .event)) (moved-is done) ∙ number-by (finite a) (L .money .failed) rest done n,
+    ap (λ x. cashAnswer (x .event)) (moved-is done) ∙ number-by success (finite a) (L .money .failed) rest done n,
   )
 
   -- a deposit
@@ -99,13 +100,13 @@ module _ (b : UistBroker) (L : Ledger) (m : Stands b L) (a : Float) where
   pub deposits : Stands (depositOf b a .broker) (Ledger.step L (deposit a)) × (cashAnswer (depositOf b a .event) ≡ Ledger.answer L (deposit a))
   unfolding depositOf Ledger.step callTests acting answerAs drawn
   deposits =
-      cash-moves [] depositDone (withMoney L (withCash (L .money) (plus a (L .money .cash)))) deposit-stands refl
+      cash-moves deposited [] depositDone (withMoney L (withCash (L .money) (plus a (L .money .cash)))) deposit-stands refl
 
   -- a withdrawal
   abbrev withdrawDone : Bool → CashMoved
   withdrawDone t = cond t (answered b (WithdrawFailure a)) (answered (Cash.withCash b (minus (cashOf b) a)) (WithdrawSuccess a))
 
-  withdraw-by : (t : Bool) → Stands (withdrawDone t .broker) (unlessDrawn (drawn ((t draws 12) ∷ [])) (withMoney L (withCash (L .money) (minus (L .money .cash) a))) L) × (cashAnswer (withdrawDone t .event) ≡ moved (drawn ((t draws 12) ∷ [])) a)
+  withdraw-by : (t : Bool) → Stands (withdrawDone t .broker) (unlessDrawn (drawn ((t draws 12) ∷ [])) (withMoney L (withCash (L .money) (minus (L .money .cash) a))) L) × (cashAnswer (withdrawDone t .event) ≡ movedAs withdrawn (drawn ((t draws 12) ∷ [])) a)
   unfolding drawn
   withdraw-by true = (m, refl)
   withdraw-by false = (subst (λ x. Stands (Cash.withCash b (minus x a)) (withMoney L (withCash (L .money) (minus (L .money .cash) a)))) (sym (cash-same b L m)) (cash-stands b L m (minus (L .money .cash) a)), refl)
@@ -116,13 +117,13 @@ module _ (b : UistBroker) (L : Ledger) (m : Stands b L) (a : Float) where
       let t = below (L .money .cash) a in
       let e : below (cashOf b) a ≡ t = ap (λ x. below x a) (cash-same b L m) in
       let w = withdraw-by t in
-      cash-moves ((t draws 12) ∷ []) (withdrawDone (below (cashOf b) a)) (withMoney L (withCash (L .money) (minus (L .money .cash) a))) (subst (λ x. Stands (withdrawDone x .broker) (unlessDrawn (drawn ((t draws 12) ∷ [])) (withMoney L (withCash (L .money) (minus (L .money .cash) a))) L)) (sym e) (w .0)) (ap (λ x. cashAnswer (withdrawDone x .event)) e ∙ w .1)
+      cash-moves withdrawn ((t draws 12) ∷ []) (withdrawDone (below (cashOf b) a)) (withMoney L (withCash (L .money) (minus (L .money .cash) a))) (subst (λ x. Stands (withdrawDone x .broker) (unlessDrawn (drawn ((t draws 12) ∷ [])) (withMoney L (withCash (L .money) (minus (L .money .cash) a))) L)) (sym e) (w .0)) (ap (λ x. cashAnswer (withdrawDone x .event)) e ∙ w .1)
 
   -- a liquidation
   abbrev liquidateDone : Bool → Bool → CashMoved
   liquidateDone fa ok = cond fa (answered (liquidatedBy b a) (cond ok (WithdrawSuccess a) (WithdrawFailure a))) (answered b (NotFinite a))
 
-  liquidate-by : (fa ok : Bool) → Stands (liquidateDone fa ok .broker) (unlessDrawn (drawn ((not fa draws 2) ∷ [])) (liquidating L a) L) × (cashAnswer (liquidateDone fa ok .event) ≡ moved (unlessDrawn (drawn ((not fa draws 2) ∷ [])) (cond ok 0 12) (drawn ((not fa draws 2) ∷ []))) a)
+  liquidate-by : (fa ok : Bool) → Stands (liquidateDone fa ok .broker) (unlessDrawn (drawn ((not fa draws 2) ∷ [])) (liquidating L a) L) × (cashAnswer (liquidateDone fa ok .event) ≡ movedAs withdrawn (unlessDrawn (drawn ((not fa draws 2) ∷ [])) (cond ok 0 12) (drawn ((not fa draws 2) ∷ []))) a)
   unfolding drawn
   liquidate-by false ok = (m, refl)
   liquidate-by true true = (liquidate-stands b L m a, refl)
@@ -170,7 +171,7 @@ module _ (l₀ : List Trade) (s : Held) (L : Ledger) (m : Meets l₀ s L) (h : l
       ∙ length-over (L .orders .trades) l₀ (omega (arith, m .stands .books .fit .traded, m .stands .books .fit .room-left, m .room-is))
 
   -- 16 is not drawn by a log that is the start's
-  log-test : (not (eqb (length (s .log)) (s .broker .exchange .counts .room)) || brokenOf (s .broker .exchange .counts)) ≡ false
+  pub log-test : (not (eqb (length (s .log)) (s .broker .exchange .counts .room)) || brokenOf (s .broker .exchange .counts)) ≡ false
   log-test =
       ap₂ (λ x y. not x || y) (eq-eqb (length (s .log)) (s .broker .exchange .counts .room) (log-length ∙ sym (m .room-is) ∙ sym (m .stands .books .room-is))) (unbroken (s .broker) L (m .stands))
 
@@ -289,7 +290,7 @@ module _ (l₀ : List Trade) (s : Held) (L : Ledger) (m : Meets l₀ s L) (h : l
   -- ---- any call
 
   -- a call that leaves the log and the trades
-  alike : {b : UistBroker} {M : Ledger} → Stands b M → Kept.Keeps L M → Meets l₀ (record { broker = b; log = s .log }) M
+  alike : {b : UistBroker} {M : Ledger} {new : List Taken} → Stands b M → Kept.Keeps L new M → Meets l₀ (record { broker = b; log = s .log }) M
   alike k q = record { stands = k; room-is = q .room ∙ m .room-is; log = m .log ∙ ap (λ x. over x l₀) (sym (q .trades)) }
 
   delete-meets : (n : ℕ) → Meets l₀ (record { broker = Send.deleteOf (s .broker) n .broker; log = s .log }) (Ledger.step L (delete n))

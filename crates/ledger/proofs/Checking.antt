@@ -27,7 +27,8 @@ use Rattle.broker.specs.State.{moneyOf}
 use Rattle.broker.specs.Send.{sentAll}
 use Rattle.broker.specs.Liquidate as Liquidate
 use Rattle.broker.specs.Check as Check
-use Rattle.broker.specs.Check.{buffer, settleOne, mergeOf, failedOf, rescuedBy, bookedBy, checkedBy}
+use Rattle.rules.specs.Liquidation.{buffer}
+use Rattle.broker.specs.Check.{settleOne, mergeOf, failedOf, rescuedBy, bookedBy, checkedBy}
 use Rattle.broker.specs.Update.{planAfter, weighedBy}
 use Rattle.broker.specs.declared.state.Portfolio.{Portfolio}
 use Rattle.broker.specs.declared.state.UistBroker.{UistBroker}
@@ -67,7 +68,7 @@ module _ (t : List Quote) (d : drawn (tableTests 0 t) ≡ 0) where
 
   pub fills-below : (l : List Entry) → All (λ y. y .symbol < 256) (fillsOf t l)
   fills-below [] = tt
-  fills-below (e ∷ l) = all-append (λ y. y .symbol < 256) (rowsOf t e) (fillsOf t l) (row-trades (e .order) (tradeFor t (e .order)) refl (rests (e .fate))) (fills-below l)
+  fills-below (e ∷ l) = all-append (λ y. y .symbol < 256) (rowsOf t e) (fillsOf t l) (row-trades (e .taken .order) (tradeFor t (e .taken .order)) refl (rests (e .fate))) (fills-below l)
 
 -- ---- booking
 

@@ -6,4 +6,6 @@ pub mod Checking
 pub mod Kept
 pub mod Calls
 pub mod Demand
+pub mod Consequences
+pub mod Refuted
 pub mod Examples

@@ -11,10 +11,10 @@ use lib.ListN.{length}
 use borrow.Author.Tests.{ltb-false, eqb-false}
 use Rattle.lists.specs.Lists.{given}
 use Rattle.market.specs.Numbers.{_draws_, drawn, unlessDrawn}
-use Rattle.market.specs.Orders.{orderTests}
+use Rattle.market.specs.Orders.{eventOf, orderTests}
 use Rattle.market.specs.declared.order.Order.{Order}
 use Rattle.market.proofs.Numbers.{order-numbered, append-none, none-drawn}
-use Rattle.orders.specs.Orders.{restingIn, takeOn, erase}
+use Rattle.orders.specs.Orders.{plain, restingIn, takeOn, erase}
 use Rattle.exchange.specs.State.{brokenOf}
 use Rattle.exchange.specs.Insert as Exchange
 use Rattle.exchange.specs.Insert.{joined, insertTests}
@@ -75,7 +75,7 @@ module _ (b : UistBroker) (L : Ledger) (m : Stands b L) where
 
   pub event-same : (o : Order) → eventFor b o ≡ sendEvent L o
   unfolding eventFor sendEvent
-  event-same o = ap₂ (λ x y. Send.eventOf o (drawn (sendTests x y o))) (m .money) rooms
+  event-same o = ap₂ (λ x y. eventOf o (drawn (sendTests x y o))) (m .money) rooms
 
   send-facts : (o : Order) → drawn (sendTests (L .money) (roomTests L) o) ≡ 0 → (o .symbol < 256) × (drawn (roomTests L) ≡ 0)
   send-facts o e =
@@ -85,7 +85,7 @@ module _ (b : UistBroker) (L : Ledger) (m : Stands b L) where
       (omega (arith, ltb-false 255 (o .symbol) (one .0)), append-none at (roomTests L) (tt, (tt, (tt, (tt, (tt, (tt, tt)))))) (r .1) .1)
 
   taken-by : (o : Order) (n : ℕ) → drawn (sendTests (L .money) (roomTests L) o) ≡ n →
-      Stands (unlessDrawn n (takenBy b o) b) (unlessDrawn n (record { room = L .room; money = expected o (L .money); orders = takeOn o (L .orders) }) L)
+      Stands (unlessDrawn n (takenBy b o) b) (unlessDrawn n (record { room = L .room; money = expected o (L .money); orders = takeOn (plain o) (L .orders) }) L)
   taken-by o (suc n) e = m
   taken-by o zero e =
       let s = send-facts o e in
@@ -101,7 +101,7 @@ module _ (b : UistBroker) (L : Ledger) (m : Stands b L) where
   pub send-stands : (o : Order) → Stands (sentOne b o) (sending L o)
   unfolding sentOne sending
   send-stands o =
-      subst (λ e. Stands (unlessDrawn (e .number) (takenBy b o) b) (unlessDrawn (sendEvent L o .number) (record { room = L .room; money = expected o (L .money); orders = takeOn o (L .orders) }) L))
+      subst (λ e. Stands (unlessDrawn (e .number) (takenBy b o) b) (unlessDrawn (sendEvent L o .number) (record { room = L .room; money = expected o (L .money); orders = takeOn (plain o) (L .orders) }) L))
       (sym (event-same o)) (unfold sendEvent in taken-by o (drawn (sendTests (L .money) (roomTests L) o)) refl)
 
   -- ---- a direct insertion
@@ -113,7 +113,7 @@ module _ (b : UistBroker) (L : Ledger) (m : Stands b L) where
       ∙ ap (λ l. drawn (orderTests o ++ l)) rooms
 
   inserted-by : (o : Order) (n : ℕ) → drawn (orderTests o ++ roomTests L) ≡ n →
-      Stands (record { exchange = unlessDrawn n (joined (b .exchange) o) (b .exchange); portfolio = b .portfolio }) (unlessDrawn n (withOrders L (takeOn o (L .orders))) L)
+      Stands (record { exchange = unlessDrawn n (joined (b .exchange) o) (b .exchange); portfolio = b .portfolio }) (unlessDrawn n (withOrders L (takeOn (plain o) (L .orders))) L)
   inserted-by o (suc n) e = m
   inserted-by o zero e =
       let h = room-left (append-none (orderTests o) (roomTests L) (order-numbered o) e .1) in
@@ -122,12 +122,12 @@ module _ (b : UistBroker) (L : Ledger) (m : Stands b L) where
   pub insert-stands : (o : Order) → Stands (Send.insertOf b o .broker) (inserting L o)
   unfolding Send.insertOf Exchange.insertOf inserting insertEvent
   insert-stands o =
-      subst (λ k. Stands (record { exchange = unlessDrawn k (joined (b .exchange) o) (b .exchange); portfolio = b .portfolio }) (unlessDrawn (drawn (orderTests o ++ roomTests L)) (withOrders L (takeOn o (L .orders))) L))
+      subst (λ k. Stands (record { exchange = unlessDrawn k (joined (b .exchange) o) (b .exchange); portfolio = b .portfolio }) (unlessDrawn (drawn (orderTests o ++ roomTests L)) (withOrders L (takeOn (plain o) (L .orders))) L))
       (sym (insert-number o)) (inserted-by o (drawn (orderTests o ++ roomTests L)) refl)
 
   pub insert-event : (o : Order) → Send.insertOf b o .event ≡ insertEvent L o
   unfolding Send.insertOf Exchange.insertOf insertEvent
-  insert-event o = ap (Send.eventOf o) (insert-number o)
+  insert-event o = ap (eventOf o) (insert-number o)
 
   -- ---- a deletion
 

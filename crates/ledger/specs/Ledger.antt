@@ -9,23 +9,22 @@ use lib.Ieee.Scale.{finite}
 use lib.ListN.{length}
 use Rattle.lists.specs.Lists.{over, given}
 use Rattle.market.specs.Numbers.{Test, _draws_, drawn, unlessDrawn}
-use Rattle.market.specs.Orders.{zero64, orderTests}
+use Rattle.market.specs.Orders.{zero64, eventOf, orderTests}
 use Rattle.market.specs.Quotes.{tableTests}
+use Rattle.market.specs.Weights.{weightRows}
 use Rattle.market.specs.declared.order.Order.{Order}
 use Rattle.market.specs.declared.quote.Quote.{Quote}
 use Rattle.market.specs.declared.weight.Weight.{Weight}
 use Rattle.costs.specs.declared.BrokerCost.{BrokerCost}
-use Rattle.orders.specs.Orders.{Orders, noOrders, restingIn, takeOn, erase, fillsOf, tick}
+use Rattle.orders.specs.Orders.{plain, Orders, noOrders, restingIn, takeOn, erase, fillsOf, tick}
 use Rattle.rules.specs.Amounts.{plus, minus, negated, below}
 use Rattle.rules.specs.Money.{Money, withCash, fetchOne, fetched, settled, expected, failedIf}
 use Rattle.rules.specs.Values.{totalValue}
 use Rattle.rules.specs.Sends.{sendTests}
-use Rattle.rules.specs.Liquidation.{salesFor, debitedBy}
+use Rattle.rules.specs.Liquidation.{salesFor, debitedBy, buffer}
 use Rattle.rules.specs.Weights.{planOf}
-use Rattle.broker.specs.Check.{buffer}
-use Rattle.broker.specs.Weigh.{weightRows}
-use Rattle.broker.specs.declared.send.OrderEvent.{OrderEvent}
-use Rattle.ledger.specs.Calls.{Call, deposit, withdraw, liquidate, send, sendList, insert, delete, check, update, Answer, number, moved, event, events, traded, updated}
+use Rattle.market.specs.declared.order.OrderEvent.{OrderEvent}
+use Rattle.ledger.specs.Calls.{Call, deposit, withdraw, liquidate, send, sendList, insert, delete, check, update, Answer, number, deposited, withdrawn, refused, event, events, traded, updated}
 
 -- costs, latest quotes, cash, holdings, pending and Failed; the log length; its trades, and each order taken as waiting, resting, traded or deleted
 pub record Ledger : Type 0 where
@@ -56,15 +55,12 @@ roomTests L =
     (eqb (length (L .orders .booked) + length (L .orders .waiting)) (L .room) draws 10) ∷
     (eqb (restingIn (L .orders .booked) + length (L .orders .waiting)) 1024 draws 11) ∷ []
 
-abbrev pub eventOf : Order → ℕ → OrderEvent
-eventOf o n = record { order = o; number = n }
-
 -- send: an order that draws no number is taken; it waits, and pending moves
 unfoldable pub sendEvent : Ledger → Order → OrderEvent
 sendEvent L o = eventOf o (drawn (sendTests (L .money) (roomTests L) o))
 
 unfoldable pub sending : Ledger → Order → Ledger
-sending L o = unlessDrawn (sendEvent L o .number) (record { room = L .room; money = expected o (L .money); orders = takeOn o (L .orders) }) L
+sending L o = unlessDrawn (sendEvent L o .number) (record { room = L .room; money = expected o (L .money); orders = takeOn (plain o) (L .orders) }) L
 
 abbrev pub sendingAll : Ledger → List Order → Ledger
 sendingAll L l = foldl sending L l
@@ -78,7 +74,7 @@ unfoldable pub insertEvent : Ledger → Order → OrderEvent
 insertEvent L o = eventOf o (drawn (orderTests o ++ roomTests L))
 
 unfoldable pub inserting : Ledger → Order → Ledger
-inserting L o = unlessDrawn (insertEvent L o .number) (withOrders L (takeOn o (L .orders))) L
+inserting L o = unlessDrawn (insertEvent L o .number) (withOrders L (takeOn (plain o) (L .orders))) L
 
 -- ---- liquidation as in section 4, each of its orders going through the send above
 
@@ -166,10 +162,14 @@ abbrev pub weighAnswer : Ledger → Option (List Order) → List OrderEvent → 
 weighAnswer L none e = updated 13 zero64 0 e
 weighAnswer L (some l) e = updated 0 (totalValue (L .money)) (length l) (over (sendEvents L l) e)
 
+-- a cash mover: its success with the amount, or its number with the amount
+abbrev pub movedAs : (Float → Answer) → ℕ → Float → Answer
+movedAs done n a = unlessDrawn n (done a) (refused n a)
+
 unfoldable pub answerAs : ℕ → Ledger → Call → Answer
-answerAs n L (deposit a) = moved n a
-answerAs n L (withdraw a) = moved n a
-answerAs n L (liquidate a) = moved (unlessDrawn n (cond (succeeds L a) 0 12) n) a
+answerAs n L (deposit a) = movedAs deposited n a
+answerAs n L (withdraw a) = movedAs withdrawn n a
+answerAs n L (liquidate a) = movedAs withdrawn (unlessDrawn n (cond (succeeds L a) 0 12) n) a
 answerAs n L (send o) = event (sendEvent L o)
 answerAs n L (sendList l e) = events n (unlessDrawn n (over (sendEvents L l) e) e)
 answerAs n L (insert o) = event (insertEvent L o)

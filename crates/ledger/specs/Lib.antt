@@ -3,4 +3,5 @@ pub mod Calls
 pub mod Ledger
 pub mod Program
 pub mod Demand
+pub mod Consequences
 pub mod Examples

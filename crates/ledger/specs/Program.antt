@@ -5,12 +5,13 @@ use Rattle.market.specs.declared.trade.Trade.{Trade}
 use Rattle.costs.specs.declared.TradeCosts.{TradeCosts}
 use Rattle.account.specs.Account.{cashNumber, cashAmount}
 use Rattle.account.specs.declared.BrokerCashEvent.{BrokerCashEvent}
+use Rattle.account.specs.declared.BrokerCashEvent.the-variants.{WithdrawSuccess, WithdrawFailure, DepositSuccess, OperationFailure, NotFinite, Broken}
 use Rattle.broker.specs.Send as Send
 use Rattle.broker.specs.Cash.{depositOf, withdrawOf}
 use Rattle.broker.specs.Liquidate.{liquidateOf}
 use Rattle.broker.specs.Lent.{buildFor, sendListNumber, sendListBroker, sendListEvents, checkFor, checkBroker, checkTraded, checkLog, updateNumberOf, updateBroker, updateTotal, updateSent, updateEvents, updateLog}
 use Rattle.broker.specs.declared.state.UistBroker.{UistBroker}
-use Rattle.ledger.specs.Calls.{Call, deposit, withdraw, liquidate, send, sendList, insert, delete, check, update, Answer, number, moved, event, events, traded, updated}
+use Rattle.ledger.specs.Calls.{Call, deposit, withdraw, liquidate, send, sendList, insert, delete, check, update, Answer, number, deposited, withdrawn, refused, event, events, traded, updated}
 
 pub record Held : Type 0 where
   pub broker : UistBroker
@@ -34,8 +35,17 @@ step s (delete n) = withBroker s (Send.deleteOf (s .broker) n .broker)
 step s (check t f) = record { broker = checkBroker (s .broker) t f (s .log); log = checkLog (s .broker) t f (s .log) }
 step s (update t f w e) = record { broker = updateBroker (s .broker) t f w e (s .log); log = updateLog (s .broker) t f w e (s .log) }
 
+abbrev pub refusedBy : BrokerCashEvent → Answer
+refusedBy e = refused (cashNumber e) (cashAmount e)
+
+-- what an event says: each success by itself; of the others the number and the amount
 abbrev pub cashAnswer : BrokerCashEvent → Answer
-cashAnswer e = moved (cashNumber e) (cashAmount e)
+cashAnswer (DepositSuccess a) = deposited (cashAmount (DepositSuccess a))
+cashAnswer (WithdrawSuccess a) = withdrawn (cashAmount (WithdrawSuccess a))
+cashAnswer (WithdrawFailure a) = refusedBy (WithdrawFailure a)
+cashAnswer (OperationFailure a) = refusedBy (OperationFailure a)
+cashAnswer (NotFinite a) = refusedBy (NotFinite a)
+cashAnswer (Broken a) = refusedBy (Broken a)
 
 unfoldable pub answer : Held → Call → Answer
 answer s (deposit a) = cashAnswer (depositOf (s .broker) a .event)

@@ -12,6 +12,7 @@ use lib.Seq.{paste, paste-zero, take-all}
 use borrow.Author.Tests.{ltb-false}
 use Rattle.lists.specs.Lists.{over, given}
 use Rattle.market.specs.Numbers.{drawn, unlessDrawn}
+use Rattle.market.specs.Weights.{weightRows}
 use Rattle.market.specs.Orders.{isSell}
 use Rattle.market.specs.declared.order.Order.{Order}
 use Rattle.market.specs.declared.quote.Quote.{Quote}
@@ -25,7 +26,7 @@ use Rattle.rules.specs.Values.{liquidationValue}
 use Rattle.rules.specs.Weights.{orderFor, sharesFor, difference, wanted, planOf}
 use Rattle.broker.specs.State.{moneyOf}
 use Rattle.broker.specs.Send.{listed}
-use Rattle.broker.specs.Weigh.{weightRows, weightsOf, weighed, planIn}
+use Rattle.broker.specs.Weigh.{weightsOf, weighed, planIn}
 use Rattle.broker.specs.declared.state.UistBroker.{UistBroker}
 use Rattle.broker.specs.declared.weigh.Weights.{Weights}
 use Rattle.broker.specs.declared.weigh.Plan.{Plan}

@@ -17,7 +17,7 @@ use Rattle.exchange.proofs.Counting.{Sound, sound-facts, sound-not-broken}
 use Rattle.broker.specs.Send.{eventFor, sentOne, sentAll, eventsOf, sendOf}
 use Rattle.broker.specs.Lent.{sendListNumber, sendListBroker, sendListEvents}
 use Rattle.broker.specs.declared.state.UistBroker.{UistBroker}
-use Rattle.broker.specs.declared.send.OrderEvent.{OrderEvent}
+use Rattle.market.specs.declared.order.OrderEvent.{OrderEvent}
 use Rattle.broker.specs.declared.send.Sent.{Sent}
 use Rattle.broker.proofs.Sending.{sent-sound}
 use Rattle.lent.specs.Walks.{lenderTests}

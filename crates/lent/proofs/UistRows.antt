@@ -1,12 +1,12 @@
 -- The row types of the broker's calls: the declared structs that are lent, passed and answered. Assumes nothing.
 use mathlib.Core.Bool.{false}
 use mathlib.Core.List.{[]}
-use Rattle.market.specs.Orders.{zero64}
+use Rattle.market.specs.Orders.{zero64, eventOf}
 use Rattle.costs.specs.Kept.{noCosts}
 use Rattle.exchange.specs.Tick.{noTrades}
 use Rattle.broker.specs.Build.{noBroker}
 use Rattle.broker.specs.Read.{readFloat}
-use Rattle.broker.specs.Send.{eventOf, blankOrder, noOrders, noEvents}
+use Rattle.broker.specs.Send.{blankOrder, noOrders, noEvents}
 use Rattle.broker.specs.declared.value.Amount.the-variants.{Missing}
 use Rattle.lent.proofs.folds.Basis as Ba
 use Rattle.lent.proofs.folds.Basis.Laws as Ba′
@@ -26,8 +26,8 @@ use Rattle.lent.proofs.uist.CheckAnswer as ChA
 use Rattle.lent.proofs.uist.CheckAnswer.Laws as ChA′
 use Rattle.market.proofs.order.Order as Or
 use Rattle.market.proofs.order.Order.Laws as Or′
-use Rattle.broker.proofs.send.OrderEvent as Ev
-use Rattle.broker.proofs.send.OrderEvent.Laws as Ev′
+use Rattle.market.proofs.order.OrderEvent as Ev
+use Rattle.market.proofs.order.OrderEvent.Laws as Ev′
 use Rattle.broker.proofs.send.Sent as Se
 use Rattle.broker.proofs.send.Sent.Laws as Se′
 use Rattle.lent.proofs.uist.SendAnswer as SeA

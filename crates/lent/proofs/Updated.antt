@@ -14,6 +14,7 @@ use borrow.Author.Tests.{ltb-false}
 use Rattle.lists.specs.Lists.{over, given}
 use Rattle.lists.proofs.Over.{paste-over}
 use Rattle.market.specs.Numbers.{drawn, unlessDrawn}
+use Rattle.market.specs.Weights.{weightRows}
 use Rattle.market.specs.Orders.{zero64}
 use Rattle.market.specs.Quotes.{tableTests, tableOf}
 use Rattle.market.specs.declared.order.Order.{Order}
@@ -28,11 +29,11 @@ use Rattle.exchange.specs.Tick.{noTrades}
 use Rattle.rules.specs.Values.{totalValue}
 use Rattle.broker.specs.State.{moneyOf}
 use Rattle.broker.specs.Send.{eventsOf, noEvents}
-use Rattle.broker.specs.Weigh.{weightRows, weighed}
+use Rattle.broker.specs.Weigh.{weighed}
 use Rattle.broker.specs.Update.{updateNumber, planAfter, weighedBy, Updates}
 use Rattle.broker.specs.Lent.{tradesIn, logWith, updateFor, checkedOn, planOn, updateNumberOf, updateBroker, updateTotal, updateSent, updateEvents, updateLog}
 use Rattle.broker.specs.declared.state.UistBroker.{UistBroker}
-use Rattle.broker.specs.declared.send.OrderEvent.{OrderEvent}
+use Rattle.market.specs.declared.order.OrderEvent.{OrderEvent}
 use Rattle.broker.specs.declared.weigh.Weights.{Weights}
 use Rattle.broker.specs.declared.update.Lengths.{Lengths}
 use Rattle.broker.specs.declared.update.Updated.{Updated}

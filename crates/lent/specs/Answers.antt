@@ -8,7 +8,7 @@ use Rattle.market.specs.declared.trade.Trade.{Trade}
 use Rattle.market.specs.declared.weight.Weight.{Weight}
 use Rattle.broker.specs.Lent.{sendListNumber, sendListBroker, sendListEvents, checkFor, checkBroker, checkTraded, checkLog, heldAfter, updateNumberOf, updateBroker, updateTotal, updateSent, updateEvents, updateLog}
 use Rattle.broker.specs.declared.state.UistBroker.{UistBroker}
-use Rattle.broker.specs.declared.send.OrderEvent.{OrderEvent}
+use Rattle.market.specs.declared.order.OrderEvent.{OrderEvent}
 use Rattle.lent.specs.Walks.{walkNumber, walkCount, walkOrders}
 use Rattle.lent.specs.declared.uist.CheckAnswer.{CheckAnswer}
 use Rattle.lent.specs.declared.uist.SendAnswer.{SendAnswer}

@@ -7,12 +7,13 @@ use lib.Dec.{ltb}
 use lib.ListN.{length}
 use Rattle.lists.specs.Lists.{over, given}
 use Rattle.market.specs.Numbers.{Test, _draws_, drawn, unlessDrawn}
+use Rattle.market.specs.Weights.{weightRows}
 use Rattle.market.specs.declared.order.Order.{Order}
 use Rattle.market.specs.declared.weight.Weight.{Weight}
 use Rattle.exchange.specs.State.{brokenOf}
 use Rattle.rules.specs.Weights.{planOf}
 use Rattle.broker.specs.State.{moneyOf}
-use Rattle.broker.specs.Weigh.{weightRows, weighed}
+use Rattle.broker.specs.Weigh.{weighed}
 use Rattle.broker.specs.declared.state.UistBroker.{UistBroker}
 use Rattle.broker.specs.declared.weigh.Weights.{Weights}
 

@@ -3,8 +3,8 @@ ghost use mathlib.Core.Path.{_≡_};
 ghost use Prim.Native.Nat.{_+_, _≤_};
 ghost use lib.ListN.{length};
 ghost use lib.Seq.{paste};
-use broker::send::OrderEvent;
 use market::order::Order;
+use market::order::OrderEvent;
 
 // Stores the first `n` of `rows` in the list, from the place `at` on.
 pub(crate) fn store_orders(list: &mut [Order], at: usize, rows: [Order; 256], n: usize)

@@ -9,6 +9,7 @@ use Rattle.market.specs.Numbers.{Test, _draws_}
 use Rattle.market.specs.declared.order.OrderType.{OrderType}
 use Rattle.market.specs.declared.order.OrderType.the-variants.{MarketSell, MarketBuy, LimitSell, LimitBuy, StopSell, StopBuy}
 use Rattle.market.specs.declared.order.Order.{Order}
+use Rattle.market.specs.declared.order.OrderEvent.{OrderEvent}
 
 -- the float 0.0, by its bits
 abbrev pub zero64 : Float
@@ -21,6 +22,10 @@ marketOrder k symbol shares = record { kind = k; priced = false; symbol = symbol
 -- an order with a price
 abbrev pub pricedOrder : OrderType → ℕ → Float → Float → Order
 pricedOrder k symbol shares price = record { kind = k; priced = true; symbol = symbol; shares = shares; price = price }
+
+-- an order's event: the order with taken (0) or its number
+abbrev pub eventOf : Order → ℕ → OrderEvent
+eventOf o n = record { order = o; number = n }
 
 -- the kinds that sell
 abbrev pub isSell : OrderType → Bool

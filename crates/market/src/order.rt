@@ -22,6 +22,12 @@ pub struct Order {
     pub price: f64,
 }
 
+// The order, with 0 where it was taken or the number that it drew.
+pub struct OrderEvent {
+    pub order: Order,
+    pub number: u32,
+}
+
 impl Order {
     fn market(kind: OrderType, symbol: u32, shares: f64) -> Order
         ensures { λ r. ⌜ r ≡ marketOrder kind symbol shares ⌝ }

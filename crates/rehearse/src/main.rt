@@ -5,7 +5,7 @@
 fn is_large(i: usize) -> bool {
     let mut word = io::buffer();
     let n = os::arg(i, &mut word);
-    text::word::is_name(&word[..n], b"large")
+    words::word::is_name(&word[..n], b"large")
 }
 
 // A run for each argument before the one numbered `i`, and one where there is none. A function that

@@ -1,2 +1,3 @@
 -- The laws of the rules.
+pub mod Literals
 pub mod Unquoted

@@ -3,7 +3,7 @@ use Prim.Native.Nat.{ℕ}
 use mathlib.Core.Bool.{cond}
 use mathlib.Core.List.{List, [], _∷_}
 use mathlib.Core.Option.{Option, none, some}
-use lib.Ieee.{Float}
+use lib.Ieee.{Float, binary64, ofBits}
 use Rattle.lists.specs.Lists.{given}
 use Rattle.market.specs.Orders.{zero64, marketOrder}
 use Rattle.market.specs.declared.order.OrderType.the-variants.{MarketSell}
@@ -48,3 +48,7 @@ salesFor m amount = cond (below (liquidationValue m) amount) none (ifSpent (walk
 -- failing debits the amount from cash unless the amount exceeds cash
 unfoldable pub debitedBy : Float → Money → Money
 debitedBy amount m = cond (below (m .cash) amount) m (withCash m (minus (m .cash) amount))
+
+-- the 1,000.0 added to a shortfall, by its bits (`buffer-is` in proofs/Literals.antt: it is the whole number 1,000)
+abbrev pub buffer : Float
+buffer = ofBits binary64 4652007308841189376

@@ -4,10 +4,10 @@ use mathlib.Core.List.{[]}
 use Rattle.market.specs.Orders.{zero64}
 use Rattle.broker.specs.Build.{noBroker}
 use Rattle.broker.specs.Send.{blankOrder}
-use Rattle.text.specs.declared.list.Span.{Span}
-use Rattle.text.specs.declared.verb.Verb.the-variants.{Blank}
-use Rattle.text.proofs.call.Call as Ca
-use Rattle.text.proofs.call.Call.Laws as Ca′
+use Rattle.calls.specs.declared.list.Span.{Span}
+use Rattle.calls.specs.declared.verb.Verb.the-variants.{Blank}
+use Rattle.calls.proofs.call.Call as Ca
+use Rattle.calls.proofs.call.Call.Laws as Ca′
 use Rattle.text.proofs.input.Input as In
 use Rattle.text.proofs.input.Input.Laws as In′
 use Rattle.scenario.proofs.run.Run as Ru

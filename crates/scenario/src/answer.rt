@@ -5,13 +5,13 @@ use broker::read::BrokerState;
 use broker::read::FloatRead;
 use broker::read::QuoteRead;
 use broker::send::Latest;
-use broker::send::OrderEvent;
 use broker::value::Amount;
+use calls::verb::Verb;
 use lent::uist::CheckAnswer;
 use market::order::Order;
+use market::order::OrderEvent;
 use market::quote::Quote;
 use text::out;
-use text::verb::Verb;
 
 // A line's number and its verb.
 pub struct Head {

@@ -4,8 +4,8 @@ use crate::answer::Head;
 use arrays::clock;
 use broker::read::FloatRead;
 use broker::state::UistBroker;
-use text::call::Call;
-use text::verb::Verb;
+use calls::call::Call;
+use calls::verb::Verb;
 
 // The broker after a call, and the microseconds of processor time that the call took.
 pub struct Done {

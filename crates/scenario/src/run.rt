@@ -19,16 +19,16 @@ use broker::build::Built;
 use broker::read::AmountRead;
 use broker::read::FloatRead;
 use broker::state::UistBroker;
+use calls::call::Call;
+use calls::list;
+use calls::verb::Verb;
 use costs::TradeCosts;
 use lent::uist;
 use market::order::Order;
 use market::table::Table;
 use market::trade::Trade;
-use text::call::Call;
 use text::input;
 use text::input::Input;
-use text::list;
-use text::verb::Verb;
 
 fn head_of(x: Input, c: Call) -> Head {
     let verb = c.verb;

@@ -5,12 +5,12 @@ use crate::answer::Head;
 use crate::plain_calls::Done;
 use broker::read::FloatRead;
 use broker::state::UistBroker;
+use calls::call::Call;
+use calls::verb::Verb;
 use costs::TradeCosts;
 use market::table::Table;
 use market::trade::Trade;
-use text::call::Call;
 use text::input::Input;
-use text::verb::Verb;
 
 // `rows` of the log are lent; the first `shown` trades were shown, and `traded` says which symbols
 // they are of; `calls` were made since the last `clock`, in `micros`.

@@ -1,7 +1,7 @@
 // Lines of standard input, in a buffer by value.
-use crate::call;
-use crate::call::Call;
-use crate::verb::Verb;
+use calls::call;
+use calls::call::Call;
+use calls::verb::Verb;
 
 // The bytes read so far are the first `filled`. Where there is a line (`found`), it is from `start`
 // to before `end`; the bytes from `next` on are of later lines. `line` counts the lines found. A

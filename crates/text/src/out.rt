@@ -1,12 +1,11 @@
 // Text on its way out: a buffer that is written when it is full.
-ghost use mathlib.Core.Path.{_≡_};
-ghost use lib.IntN.{natAbs};
-use crate::verb::Verb;
+use calls::verb::Verb;
 use market::order::Order;
 use market::order::OrderType;
 use market::quote::Quote;
 use market::trade::Trade;
 use market::trade::TradeType;
+use words::number;
 
 // Copies `s` behind the first `at` bytes as far as there is room, and answers how many stand there
 // then.
@@ -51,22 +50,12 @@ pub fn put_whole(out: &mut [u8; 4096], at: usize, x: u64) -> usize {
     put(out, at, &t[..k])
 }
 
-// The number without its sign.
-pub fn magnitude(x: i64) -> u64
-    ensures { λ r. ⌜ r ≡ natAbs x ⌝ }
-{
-    if x < 0 {
-        return (-(x + 1)) as u64 + 1;
-    }
-    x as u64
-}
-
 fn put_signed(out: &mut [u8; 4096], at: usize, x: i64) -> usize {
     if x < 0 {
         let n = put(out, at, b"-");
-        return put_whole(out, n, magnitude(x));
+        return put_whole(out, n, number::magnitude(x));
     }
-    put_whole(out, at, magnitude(x))
+    put_whole(out, at, number::magnitude(x))
 }
 
 // The bits' digits; all NaNs are written alike.

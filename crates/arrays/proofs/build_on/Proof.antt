@@ -1,5 +1,5 @@
 -- `build_on`: the first rows of the table are lent, and the log is passed on. Assumes nothing.
-use Rattle.walks.proofs.Walk.{Base, ptrTo, shrTy, same, hasV, freeV, hasA, makeA, freeA, rd, fr, gn, loc, drop, copies, units, begins, over, forgets, arrTo, freeS, joins-shr, shares-array, array-shr-back, returns, Callee, Knows, _&_, no-more, shr, by-val, by-slice, calls, callee, Task, task, Derives, Owes, runs, world, under, knows, closes-safe, arith, refl, [], _∷_, w64, erased, imm, Sc, sInt}
+use Rattle.walks.proofs.Walk.{Base, ptrTo, shrTy, same, hasV, freeV, hasA, makeA, freeA, rd, fr, gn, loc, drop, copies, units, begins, over, forgets, arrTo, freeS, joins-shr, shares-array, array-shr-back, returns, Callee, Knows, _&_, no-more, shr, by-val, by-slice, calls, callee, Task, task, Derives, Owes, runs, world, under, knows, closes, arith, refl, [], _∷_, w64, erased, imm, Sc, sInt}
 use Rattle.lent.proofs.Rows.{quote, trade}
 use Rattle.lent.proofs.UistRows.{trade-costs}
 use Rattle.lent.proofs.Public as Public
@@ -7,7 +7,8 @@ use Rattle.lent.proofs.uist.build.Symbol as build-Symbol
 use Rattle.lent.proofs.uist.build.Met as build-Met
 use Rattle.arrays.proofs.Rows.{lists}
 use Rattle.arrays.proofs.Callees.{tradable-in, knows-tradable-in, tradable-rows, knows-tradable-rows}
-use Rattle.arrays.proofs.Lengths.{within, counted}
+use Rattle.arrays.proofs.Lengths.{within, count-within}
+use Rattle.arrays.proofs.Answers.{build-answers}
 use Rattle.arrays.proofs.Contracts.{build-on as contract}
 use Rattle.arrays.proofs.build_on.Key.{name}
 use Rattle.arrays.proofs.build_on.Code as code
@@ -41,13 +42,25 @@ derived o kn κs qs bs =
     drop 1 (freeV trade-costs) (drop 2 (freeV lists) (drop 4 (freeA quote 512) (drop 5 (fr U) (drop 6 (freeA quote 512) (returns tt))))))))))))))))
 
 asked : Owes goal derived
-asked o kn κs qs a good pre bs = (λ _. tt, λ t. (λ _. tt, λ k. (within (t .1) (k .1) _ 512 (k .5) (t .3 .1 .0 .1), λ _. (counted (t .1) (k .1) (within (t .1) (k .1) _ 512 (k .5) (t .3 .1 .0 .1)), (λ _. tt, λ r. ((tt, (tt, (refl, tt))), tt))))))
+asked o kn κs qs a good pre bs = (
+  λ _. tt,
+  λ t. (
+    λ _. tt,
+    λ k. (
+      within (t .1) (k .1) _ 512 (k .5) (t .3 .1 .0 .1),
+      λ _. (
+        count-within (t .1) (k .1) _ 512 (k .5) (t .3 .1 .0 .1),
+        (λ _. tt, λ r. ((tt, (tt, (refl, tt))), build-answers (a .0) (a .1 .0) (a .1 .1 .0 .now) (t .1) (k .1) (r .1) (t .5) (k .5) (r .5))),
+      ),
+    ),
+  ),
+)
 
 pub build-on-spec : {M : Type 1} → statement M
 unfolding code.routine
 build-on-spec 𝓤 H 𝓜 𝓖 𝓡 =
     let w = world 𝓤 H 𝓜 𝓖 𝓡 in
-    closes-safe contract w code.env name code.function (code.unfolded 𝓤 H 𝓜 𝓡) (runs goal derived asked (under w code.env) (
+    closes contract w code.env name code.function (code.unfolded 𝓤 H 𝓜 𝓡) (runs goal derived asked (under w code.env) (
       knows-tradable-in w code.env code.calls-arrays·tradable-in,
       knows-tradable-rows w code.env code.calls-arrays·tradable-rows,
       knows Public.build w code.env "lent::uist::build" build-Symbol.routine code.calls-lent·uist·build (build-Met.met 𝓤 H 𝓜 𝓖 𝓡),

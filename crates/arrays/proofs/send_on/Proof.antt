@@ -1,12 +1,13 @@
 -- `send_on`: the first orders are lent, and the first events of an array of blank ones. Assumes nothing.
-use Rattle.walks.proofs.Walk.{Base, ptrTo, same, hasV, freeV, hasA, makeA, freeA, rd, fr, gn, loc, drop, copies, units, begins, over, forgets, arrTo, freeS, joins-shr, joins-mut, shares-array, array-shr-back, lends-array, array-back, returns, Callee, Knows, _&_, no-more, shr, mut-slice, by-val, by-slice, by-mut-slice, calls, callee, Task, task, Derives, Owes, runs, world, under, knows, closes-safe, arith, refl, [], _∷_, w64, erased, imm, mut, Sc, sInt}
+use Rattle.walks.proofs.Walk.{Base, ptrTo, same, hasV, freeV, hasA, makeA, freeA, rd, fr, gn, loc, drop, copies, units, begins, over, forgets, arrTo, freeS, joins-shr, joins-mut, shares-array, array-shr-back, lends-array, array-back, returns, Callee, Knows, _&_, no-more, shr, mut-slice, by-val, by-slice, by-mut-slice, calls, callee, Task, task, Derives, Owes, runs, world, under, knows, closes, arith, refl, [], _∷_, w64, erased, imm, mut, Sc, sInt}
 use Rattle.lent.proofs.UistRows.{uist-broker, order, order-event, send-answer}
 use Rattle.lent.proofs.Public as Public
 use Rattle.lent.proofs.uist.send_orders.Symbol as send-orders-Symbol
 use Rattle.lent.proofs.uist.send_orders.Met as send-orders-Met
 use Rattle.arrays.proofs.Rows.{orders}
 use Rattle.arrays.proofs.Callees.{orders-in, knows-orders-in, order-rows, knows-order-rows, sent-rows, knows-sent-rows, no-events, knows-no-events, sent, knows-sent}
-use Rattle.arrays.proofs.Lengths.{within, counted}
+use Rattle.arrays.proofs.Lengths.{within, count-within}
+use Rattle.arrays.proofs.Answers.{send-answers}
 use Rattle.arrays.proofs.Contracts.{send-on as contract}
 use Rattle.arrays.proofs.send_on.Key.{name}
 use Rattle.arrays.proofs.send_on.Code as code
@@ -51,13 +52,49 @@ derived o kn κs qs bs =
     drop 1 (freeV uist-broker) (drop 2 (freeV orders) (drop 3 (freeA order 1024) (drop 4 (fr U) (drop 5 (fr U) (drop 6 (freeA order-event 1024) (drop 7 (freeV send-answer) (drop 8 (freeA order 1024) (drop 9 (freeA order-event 1024) (returns tt)))))))))))))))))))))))))))))))
 
 asked : Owes goal derived
-asked o kn κs qs a good pre bs = (λ _. tt, λ o. (λ _. tt, λ k. (λ _. tt, λ r. (λ _. tt, λ e. (within (o .1) (k .1) _ 1024 (k .5) (o .3 .1 .0 .1), λ _. (counted (o .1) (k .1) (within (o .1) (k .1) _ 1024 (k .5) (o .3 .1 .0 .1)), (within (e .1) (r .1) _ 1024 (r .5) (e .3 .1 .0 .1), λ _. (counted (e .1) (r .1) (within (e .1) (r .1) _ 1024 (r .5) (e .3 .1 .0 .1)), (λ _. tt, λ y. (refl, λ _. (λ _. tt, λ z. ((tt, (tt, tt)), tt))))))))))))
+asked b kn κs qs a good pre bs = (
+  λ _. tt,
+  λ o. (
+    λ _. tt,
+    λ k. (
+      λ _. tt,
+      λ r. (
+        λ _. tt,
+        λ e. (
+          within (o .1) (k .1) _ 1024 (k .5) (o .3 .1 .0 .1),
+          λ _. (
+            count-within (o .1) (k .1) _ 1024 (k .5) (o .3 .1 .0 .1),
+            (
+              within (e .1) (r .1) _ 1024 (r .5) (e .3 .1 .0 .1),
+              λ _. (
+                count-within (e .1) (r .1) _ 1024 (r .5) (e .3 .1 .0 .1),
+                (
+                  λ _. tt,
+                  λ y. (
+                    refl,
+                    λ same. (
+                      λ _. tt,
+                      λ z. (
+                        (tt, (tt, tt)),
+                        send-answers (a .0) (a .1 .0) (o .1) (e .1) _ (k .1) (r .1) (y .1) (z .1) (o .5) (k .5) (e .5) (r .5) (e .3 .1 .0 .1) same (y .5) (z .5),
+                      ),
+                    ),
+                  ),
+                ),
+              ),
+            ),
+          ),
+        ),
+      ),
+    ),
+  ),
+)
 
 pub send-on-spec : {M : Type 1} → statement M
 unfolding code.routine
 send-on-spec 𝓤 H 𝓜 𝓖 𝓡 =
     let w = world 𝓤 H 𝓜 𝓖 𝓡 in
-    closes-safe contract w code.env name code.function (code.unfolded 𝓤 H 𝓜 𝓡) (runs goal derived asked (under w code.env) (
+    closes contract w code.env name code.function (code.unfolded 𝓤 H 𝓜 𝓡) (runs goal derived asked (under w code.env) (
       knows-orders-in w code.env code.calls-arrays·orders-in,
       knows-order-rows w code.env code.calls-arrays·order-rows,
       knows-sent-rows w code.env code.calls-arrays·sent-rows,

@@ -1,5 +1,5 @@
 -- `update_on`: the first rows of tables and weights are lent, the first events of an array of blank ones, and the log is lent on. Assumes nothing.
-use Rattle.walks.proofs.Walk.{Base, ptrTo, mutTy, same, hasV, freeV, hasA, makeA, freeA, rd, fr, gn, loc, part, lent-len, drop, copies, units, begins, over, forgets, relends, joins, back, arrTo, freeS, joins-shr, joins-mut, shares-array, array-shr-back, lends-array, array-back, returns, Callee, Knows, _&_, no-more, int, shr, mut-slice, by-val, by-num, by-slice, by-mut-slice, calls, callee, Task, task, Derives, Owes, runs, world, under, knows, closes-safe, arith, refl, ap, [], _∷_, w64, named, erased, imm, mut, field, Sc, sInt, lease}
+use Rattle.walks.proofs.Walk.{Base, ptrTo, mutTy, same, hasV, freeV, hasA, makeA, freeA, rd, fr, gn, loc, part, lent-len, drop, copies, units, begins, over, forgets, relends, joins, back, arrTo, freeS, joins-shr, joins-mut, shares-array, array-shr-back, lends-array, array-back, returns, Callee, Knows, _&_, no-more, int, shr, mut-slice, by-val, by-num, by-slice, by-mut-slice, calls, callee, Task, task, Derives, Owes, runs, world, under, knows, closes, arith, refl, ap, [], _∷_, w64, named, erased, imm, mut, field, Sc, sInt, lease}
 use Rattle.lent.proofs.Rows.{quote, trade}
 use Rattle.lent.proofs.UistRows.{uist-broker, order-event, weight, update-answer}
 use Rattle.lent.proofs.Public as Public
@@ -7,7 +7,8 @@ use Rattle.lent.proofs.uist.update.Symbol as update-Symbol
 use Rattle.lent.proofs.uist.update.Met as update-Met
 use Rattle.arrays.proofs.Rows.{lists}
 use Rattle.arrays.proofs.Callees.{tradable-in, knows-tradable-in, fetched-in, knows-fetched-in, weights-in, knows-weights-in, tradable-rows, knows-tradable-rows, fetched-rows, knows-fetched-rows, weight-rows, knows-weight-rows, event-rows, knows-event-rows, no-events, knows-no-events, now, knows-now, since, knows-since, updated, knows-updated}
-use Rattle.arrays.proofs.Lengths.{within, counted}
+use Rattle.arrays.proofs.Lengths.{within, count-within}
+use Rattle.arrays.proofs.Answers.{update-answers}
 use Rattle.arrays.proofs.Contracts.{update-on as contract}
 use Rattle.arrays.proofs.update_on.Key.{name}
 use Rattle.arrays.proofs.update_on.Code as code
@@ -80,13 +81,85 @@ derived o kn κs qs bs =
     drop 1 (freeV uist-broker) (drop 2 (freeV lists) (drop 4 (freeA quote 512) (drop 5 (freeA quote 512) (drop 6 (freeA weight 512) (drop 7 (fr U) (drop 8 (fr U) (drop 9 (fr U) (drop 10 (fr U) (drop 11 (freeA order-event 1024) (drop 12 (fr U) (drop 13 (freeV update-answer) (drop 14 (fr U) (drop 15 (freeA quote 512) (drop 16 (freeA weight 512) (drop 17 (freeA order-event 1024) (returns tt))))))))))))))))))))))))))))))))))))))))))))))))))))))))))))))))))
 
 asked : Owes goal derived
-asked o kn κs qs a good pre bs = (λ _. tt, λ t. (λ _. tt, λ f. (λ _. tt, λ w. (λ _. tt, λ k. (λ _. tt, λ l. (λ _. tt, λ m. (λ _. tt, λ r. (λ _. tt, λ e. (λ _. tt, λ from. (within (t .1) (k .1) _ 512 (k .5) (t .3 .1 .0 .1), λ _. (counted (t .1) (k .1) (within (t .1) (k .1) _ 512 (k .5) (t .3 .1 .0 .1)), (within (f .1) (l .1) _ 512 (l .5) (f .3 .1 .0 .1), λ _. (counted (f .1) (l .1) (within (f .1) (l .1) _ 512 (l .5) (f .3 .1 .0 .1)), (within (w .1) (m .1) _ 512 (m .5) (w .3 .1 .0 .1), λ _. (counted (w .1) (m .1) (within (w .1) (m .1) _ 512 (m .5) (w .3 .1 .0 .1)), (within (e .1) (r .1) _ 1024 (r .5) (e .3 .1 .0 .1), λ _. (counted (e .1) (r .1) (within (e .1) (r .1) _ 1024 (r .5) (e .3 .1 .0 .1)), λ _. (refl, (λ _. tt, λ y. (refl, λ _. (refl, λ long. (λ _. tt, λ n. (λ _. tt, λ z. ((tt, (tt, (ap (λ k. (a .1 .1 .0 .ptr, (a .1 .1 .0 .name, k))) long, tt))), tt))))))))))))))))))))))))
+asked o kn κs qs a good pre bs = (
+  λ _. tt,
+  λ t. (
+    λ _. tt,
+    λ f. (
+      λ _. tt,
+      λ w. (
+        λ _. tt,
+        λ k. (
+          λ _. tt,
+          λ l. (
+            λ _. tt,
+            λ m. (
+              λ _. tt,
+              λ r. (
+                λ _. tt,
+                λ e. (
+                  λ _. tt,
+                  λ from. (
+                    within (t .1) (k .1) _ 512 (k .5) (t .3 .1 .0 .1),
+                    λ _. (
+                      count-within (t .1) (k .1) _ 512 (k .5) (t .3 .1 .0 .1),
+                      (
+                        within (f .1) (l .1) _ 512 (l .5) (f .3 .1 .0 .1),
+                        λ _. (
+                          count-within (f .1) (l .1) _ 512 (l .5) (f .3 .1 .0 .1),
+                          (
+                            within (w .1) (m .1) _ 512 (m .5) (w .3 .1 .0 .1),
+                            λ _. (
+                              count-within (w .1) (m .1) _ 512 (m .5) (w .3 .1 .0 .1),
+                              (
+                                within (e .1) (r .1) _ 1024 (r .5) (e .3 .1 .0 .1),
+                                λ _. (
+                                  count-within (e .1) (r .1) _ 1024 (r .5) (e .3 .1 .0 .1),
+                                  λ _. (
+                                    refl,
+                                    (
+                                      λ _. tt,
+                                      λ y. (
+                                        refl,
+                                        λ same. (
+                                          refl,
+                                          λ long. (
+                                            λ _. tt,
+                                            λ n. (
+                                              λ _. tt,
+                                              λ z. (
+                                                (tt, (tt, (ap (λ k. (a .1 .1 .0 .ptr, (a .1 .1 .0 .name, k))) long, tt))),
+                                                update-answers (a .0) (a .1 .0) (a .1 .1 .0 .now) _ (t .1) (f .1) (w .1) (e .1) _ (k .1) (l .1) (m .1) (r .1) (n .1) (y .1) (z .1) (t .5) (k .5) (f .5) (l .5) (w .5) (m .5) (e .5) (r .5) (e .3 .1 .0 .1) same (y .5) (z .5),
+                                              ),
+                                            ),
+                                          ),
+                                        ),
+                                      ),
+                                    ),
+                                  ),
+                                ),
+                              ),
+                            ),
+                          ),
+                        ),
+                      ),
+                    ),
+                  ),
+                ),
+              ),
+            ),
+          ),
+        ),
+      ),
+    ),
+  ),
+)
 
 pub update-on-spec : {M : Type 1} → statement M
 unfolding code.routine
 update-on-spec 𝓤 H 𝓜 𝓖 𝓡 =
     let w = world 𝓤 H 𝓜 𝓖 𝓡 in
-    closes-safe contract w code.env name code.function (code.unfolded 𝓤 H 𝓜 𝓡) (runs goal derived asked (under w code.env) (
+    closes contract w code.env name code.function (code.unfolded 𝓤 H 𝓜 𝓡) (runs goal derived asked (under w code.env) (
       knows-tradable-in w code.env code.calls-arrays·tradable-in,
       knows-fetched-in w code.env code.calls-arrays·fetched-in,
       knows-weights-in w code.env code.calls-arrays·weights-in,

@@ -1,12 +1,13 @@
 -- `walk_on`: the first weights are lent, and the first orders of an array of blank ones. Assumes nothing.
-use Rattle.walks.proofs.Walk.{Base, ptrTo, same, hasV, freeV, hasA, makeA, freeA, rd, fr, gn, loc, drop, copies, units, begins, over, forgets, arrTo, freeS, joins-shr, joins-mut, shares-array, array-shr-back, lends-array, array-back, returns, Callee, Knows, _&_, no-more, shr, mut-slice, by-val, by-slice, by-mut-slice, calls, callee, Task, task, Derives, Owes, runs, world, under, knows, closes-safe, arith, refl, [], _∷_, w64, erased, imm, mut, Sc, sInt}
+use Rattle.walks.proofs.Walk.{Base, ptrTo, same, hasV, freeV, hasA, makeA, freeA, rd, fr, gn, loc, drop, copies, units, begins, over, forgets, arrTo, freeS, joins-shr, joins-mut, shares-array, array-shr-back, lends-array, array-back, returns, Callee, Knows, _&_, no-more, shr, mut-slice, by-val, by-slice, by-mut-slice, calls, callee, Task, task, Derives, Owes, runs, world, under, knows, closes, arith, refl, [], _∷_, w64, erased, imm, mut, Sc, sInt}
 use Rattle.lent.proofs.UistRows.{uist-broker, order, weight, walk-answer}
 use Rattle.lent.proofs.Public as Public
 use Rattle.lent.proofs.uist.diff_against_target_weights.Symbol as diff-against-target-weights-Symbol
 use Rattle.lent.proofs.uist.diff_against_target_weights.Met as diff-against-target-weights-Met
 use Rattle.arrays.proofs.Rows.{lists}
 use Rattle.arrays.proofs.Callees.{weights-in, knows-weights-in, weight-rows, knows-weight-rows, event-rows, knows-event-rows, no-orders, knows-no-orders, walked, knows-walked}
-use Rattle.arrays.proofs.Lengths.{within, counted}
+use Rattle.arrays.proofs.Lengths.{within, count-within}
+use Rattle.arrays.proofs.Answers.{walk-answers}
 use Rattle.arrays.proofs.Contracts.{walk-on as contract}
 use Rattle.arrays.proofs.walk_on.Key.{name}
 use Rattle.arrays.proofs.walk_on.Code as code
@@ -51,13 +52,49 @@ derived o kn κs qs bs =
     drop 1 (freeV uist-broker) (drop 2 (freeV lists) (drop 3 (freeA weight 512) (drop 4 (fr U) (drop 5 (fr U) (drop 6 (freeA order 1024) (drop 7 (freeV walk-answer) (drop 8 (freeA weight 512) (drop 9 (freeA order 1024) (returns tt)))))))))))))))))))))))))))))))
 
 asked : Owes goal derived
-asked o kn κs qs a good pre bs = (λ _. tt, λ o. (λ _. tt, λ k. (λ _. tt, λ r. (λ _. tt, λ e. (within (o .1) (k .1) _ 512 (k .5) (o .3 .1 .0 .1), λ _. (counted (o .1) (k .1) (within (o .1) (k .1) _ 512 (k .5) (o .3 .1 .0 .1)), (within (e .1) (r .1) _ 1024 (r .5) (e .3 .1 .0 .1), λ _. (counted (e .1) (r .1) (within (e .1) (r .1) _ 1024 (r .5) (e .3 .1 .0 .1)), (λ _. tt, λ y. (refl, λ _. (λ _. tt, λ z. ((tt, (tt, tt)), tt))))))))))))
+asked b kn κs qs a good pre bs = (
+  λ _. tt,
+  λ w. (
+    λ _. tt,
+    λ m. (
+      λ _. tt,
+      λ r. (
+        λ _. tt,
+        λ o. (
+          within (w .1) (m .1) _ 512 (m .5) (w .3 .1 .0 .1),
+          λ _. (
+            count-within (w .1) (m .1) _ 512 (m .5) (w .3 .1 .0 .1),
+            (
+              within (o .1) (r .1) _ 1024 (r .5) (o .3 .1 .0 .1),
+              λ _. (
+                count-within (o .1) (r .1) _ 1024 (r .5) (o .3 .1 .0 .1),
+                (
+                  λ _. tt,
+                  λ y. (
+                    refl,
+                    λ same. (
+                      λ _. tt,
+                      λ z. (
+                        (tt, (tt, tt)),
+                        walk-answers (a .0) (a .1 .0) (w .1) (o .1) _ (m .1) (r .1) (y .1) (z .1) (w .5) (m .5) (o .5) (r .5) (o .3 .1 .0 .1) same (y .5) (z .5),
+                      ),
+                    ),
+                  ),
+                ),
+              ),
+            ),
+          ),
+        ),
+      ),
+    ),
+  ),
+)
 
 pub walk-on-spec : {M : Type 1} → statement M
 unfolding code.routine
 walk-on-spec 𝓤 H 𝓜 𝓖 𝓡 =
     let w = world 𝓤 H 𝓜 𝓖 𝓡 in
-    closes-safe contract w code.env name code.function (code.unfolded 𝓤 H 𝓜 𝓡) (runs goal derived asked (under w code.env) (
+    closes contract w code.env name code.function (code.unfolded 𝓤 H 𝓜 𝓡) (runs goal derived asked (under w code.env) (
       knows-weights-in w code.env code.calls-arrays·weights-in,
       knows-weight-rows w code.env code.calls-arrays·weight-rows,
       knows-event-rows w code.env code.calls-arrays·event-rows,

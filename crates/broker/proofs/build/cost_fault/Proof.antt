@@ -14,7 +14,8 @@ use Rattle.costs.specs.Kept.{costsOf}
 use Rattle.costs.specs.declared.BrokerCost.{BrokerCost}
 use Rattle.costs.specs.declared.TradeCosts.{TradeCosts}
 use Rattle.costs.proofs.Laws.{past, length-costs, cost-at}
-use Rattle.broker.specs.Build.{isFinite, eachFinite, costTests}
+use Rattle.costs.specs.Costs.{isFinite}
+use Rattle.broker.specs.Build.{eachFinite, costTests}
 use Rattle.broker.proofs.build.cost_fault.Statement.{statement}
 use Rattle.broker.proofs.build.cost_fault.Tie as tie
 

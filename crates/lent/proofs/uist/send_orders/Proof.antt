@@ -3,7 +3,7 @@ use Rattle.walks.proofs.Walk.{Base, R, ty, shrTy, mutTy, same, hasV, makeV, fre
 use Rattle.walks.proofs.Walk.{_≡_, ap, ℕ, _≤_, _<_, _+_, _-_, _*_, _^_, length, set, size, upd, get, arith, scaled-fits, ltb-true, ltb-false, falls, reached}
 use Rattle.market.specs.declared.order.Order.{Order}
 use Rattle.broker.specs.declared.state.UistBroker.{UistBroker}
-use Rattle.broker.specs.declared.send.OrderEvent.{OrderEvent}
+use Rattle.market.specs.declared.order.OrderEvent.{OrderEvent}
 use Rattle.lent.proofs.Sends.{Sends, sends-none, sends-one, told-length, rows-sent, sound-sent, send-answers}
 use Rattle.lent.proofs.UistRows as Rows
 use Rattle.lent.proofs.UistRows.{uist-broker, order, order-event, sent}

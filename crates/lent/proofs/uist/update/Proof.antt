@@ -6,7 +6,7 @@ use Rattle.market.specs.declared.quote.Quote.{Quote}
 use Rattle.market.specs.declared.trade.Trade.{Trade}
 use Rattle.market.specs.declared.weight.Weight.{Weight}
 use Rattle.broker.specs.declared.state.UistBroker.{UistBroker}
-use Rattle.broker.specs.declared.send.OrderEvent.{OrderEvent}
+use Rattle.market.specs.declared.order.OrderEvent.{OrderEvent}
 use Rattle.lent.proofs.Updated.{log-fits, log-is, events-fit, update-answers}
 use Rattle.lent.proofs.Rows.{quote, table, trade}
 use Rattle.lent.proofs.UistRows.{uist-broker, weight, weights, order-event, lengths, updated}

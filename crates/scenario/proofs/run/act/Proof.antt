@@ -1,5 +1,5 @@
 -- `act`: a check or an update, by the calls on arrays, with the log lent on. Assumes nothing.
-use Rattle.walks.proofs.Walk.{Base, ptrTo, mutTy, same, hasV, freeV, fr, gn, flag, part, lent-len, drop, units, begins, over, forgets, relends, joins, back, breaks, returns, Callee, Knows, _&_, no-more, mut-slice, by-val, by-mut-slice, calls, callee, Task, task, Derives, Owes, runs, world, under, closes-safe, knows-safe, refl, ap, [], _∷_, w64, named, erased, mut, field, Sc, sInt, sBool, lease}
+use Rattle.walks.proofs.Walk.{Base, ptrTo, mutTy, same, hasV, freeV, fr, gn, flag, part, lent-len, drop, units, begins, over, forgets, relends, joins, back, breaks, returns, Callee, Knows, _&_, no-more, mut-slice, by-val, by-mut-slice, calls, callee, Task, task, Derives, Owes, runs, world, under, closes-safe, knows, refl, ap, [], _∷_, w64, named, erased, mut, field, Sc, sInt, sBool, lease}
 use Rattle.lent.proofs.Rows.{trade}
 use Rattle.lent.proofs.UistRows.{uist-broker}
 use Rattle.arrays.proofs.check_on.Symbol as check-on-Symbol
@@ -50,10 +50,10 @@ act-spec 𝓤 H 𝓜 𝓖 𝓡 =
     closes-safe contract w code.env name code.function (code.unfolded 𝓤 H 𝓜 𝓡) (runs goal derived asked (under w code.env) (
       knows-is-check w code.env code.calls-scenario·run·is-check,
       knows-lists-of w code.env code.calls-scenario·run·lists-of,
-      knows-safe ArrayContracts.check-on w code.env "arrays::check_on" check-on-Symbol.routine code.calls-arrays·check-on (check-on-Met.met 𝓤 H 𝓜 𝓖 𝓡),
+      knows ArrayContracts.check-on w code.env "arrays::check_on" check-on-Symbol.routine code.calls-arrays·check-on (check-on-Met.met 𝓤 H 𝓜 𝓖 𝓡),
       knows-check-done w code.env code.calls-scenario·run·check-done,
       knows-is-update w code.env code.calls-scenario·run·is-update,
-      knows-safe ArrayContracts.update-on w code.env "arrays::update_on" update-on-Symbol.routine code.calls-arrays·update-on (update-on-Met.met 𝓤 H 𝓜 𝓖 𝓡),
+      knows ArrayContracts.update-on w code.env "arrays::update_on" update-on-Symbol.routine code.calls-arrays·update-on (update-on-Met.met 𝓤 H 𝓜 𝓖 𝓡),
       knows-update-done w code.env code.calls-scenario·run·update-done,
       knows-unchanged w code.env code.calls-scenario·plain-calls·unchanged,
     ))

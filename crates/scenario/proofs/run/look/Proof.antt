@@ -1,5 +1,5 @@
 -- `look`: a new broker, a cost basis or the turnover, with the log passed on; every other call by value. Assumes nothing.
-use Rattle.walks.proofs.Walk.{Base, shrTy, hasV, freeV, fr, gn, flag, drop, breaks, returns, Callee, Knows, _&_, no-more, int, shr, by-val, by-num, by-slice, calls, callee, Task, task, Derives, Owes, runs, world, under, knows, closes-safe, knows-safe, refl, [], _∷_, w32, w64, Sc, sInt, sBool}
+use Rattle.walks.proofs.Walk.{Base, shrTy, hasV, freeV, fr, gn, flag, drop, breaks, returns, Callee, Knows, _&_, no-more, int, shr, by-val, by-num, by-slice, calls, callee, Task, task, Derives, Owes, runs, world, under, knows, closes-safe, refl, [], _∷_, w32, w64, Sc, sInt, sBool}
 use Rattle.lent.proofs.Rows.{trade}
 use Rattle.lent.proofs.UistRows.{trade-costs, built, uist-broker, amount-read, float-read}
 use Rattle.lent.proofs.Public as Public
@@ -60,7 +60,7 @@ look-spec 𝓤 H 𝓜 𝓖 𝓡 =
       knows-costs-of w code.env code.calls-scenario·run·costs-of,
       knows-lists-of w code.env code.calls-scenario·run·lists-of,
       knows-now w code.env code.calls-arrays·clock·now,
-      knows-safe ArrayContracts.build-on w code.env "arrays::build_on" build-on-Symbol.routine code.calls-arrays·build-on (build-on-Met.met 𝓤 H 𝓜 𝓖 𝓡),
+      knows ArrayContracts.build-on w code.env "arrays::build_on" build-on-Symbol.routine code.calls-arrays·build-on (build-on-Met.met 𝓤 H 𝓜 𝓖 𝓡),
       knows-build-done w code.env code.calls-scenario·run·build-done,
       knows-is-basis w code.env code.calls-scenario·run·is-basis,
       knows-broker-in w code.env code.calls-scenario·plain-calls·broker-in,

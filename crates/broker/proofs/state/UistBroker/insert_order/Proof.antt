@@ -1,12 +1,13 @@
 -- `UistBroker::insert_order` meets its contract: what the exchange gives, with the portfolio kept. Assumes nothing.
 use mathlib.Core.Path.{_≡_, ap, _∙_}
 use borrow.Author.Needs.{needs}
+use Rattle.market.specs.Orders.{eventOf}
 use Rattle.market.specs.declared.order.Order.{Order}
 use Rattle.exchange.specs.Insert as Exchange
 use Rattle.exchange.specs.declared.insert.Inserted.{Inserted}
-use Rattle.broker.specs.Send.{eventOf, insertOf}
+use Rattle.broker.specs.Send.{insertOf}
 use Rattle.broker.specs.declared.state.UistBroker.{UistBroker}
-use Rattle.broker.specs.declared.send.OrderEvent.{OrderEvent}
+use Rattle.market.specs.declared.order.OrderEvent.{OrderEvent}
 use Rattle.broker.specs.declared.send.Sent.{Sent}
 use Rattle.broker.proofs.state.UistBroker.insert_order.Statement.{statement}
 use Rattle.broker.proofs.state.UistBroker.insert_order.Tie as tie

@@ -11,7 +11,7 @@ use Rattle.broker.specs.declared.state.UistBroker.{UistBroker}
 use Rattle.broker.proofs.Sending.{OneFits, brokerWith, event-for, fits-here, takes-parts, passes-parts, Inv, starts, sends-one, all-sent}
 use Rattle.market.specs.declared.order.Order.{Order}
 use Rattle.broker.specs.Send.{sentAll, sendAllOf}
-use Rattle.broker.specs.declared.send.OrderEvent.{OrderEvent}
+use Rattle.market.specs.declared.order.OrderEvent.{OrderEvent}
 use Rattle.broker.specs.declared.send.SentAll.{SentAll}
 use Rattle.broker.proofs.state.UistBroker.queue_all.Statement.{statement}
 use Rattle.broker.proofs.state.UistBroker.queue_all.Tie as tie

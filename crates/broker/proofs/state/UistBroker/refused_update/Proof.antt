@@ -10,7 +10,7 @@ use Rattle.exchange.specs.Tick.{tickOf}
 use Rattle.broker.specs.Send.{noEvents}
 use Rattle.broker.specs.Update.{updateRefused}
 use Rattle.broker.specs.declared.state.UistBroker.{UistBroker}
-use Rattle.broker.specs.declared.send.OrderEvent.{OrderEvent}
+use Rattle.market.specs.declared.order.OrderEvent.{OrderEvent}
 use Rattle.broker.proofs.state.UistBroker.refused_update.Statement.{statement}
 use Rattle.broker.proofs.state.UistBroker.refused_update.Tie as tie
 

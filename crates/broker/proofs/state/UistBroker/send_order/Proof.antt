@@ -4,15 +4,16 @@ use mathlib.Core.Bool.{Bool, true, false, cond}
 use native.Mathlib.Omega.{arith}
 use borrow.Author.Needs.{needs}
 use Prim.Native.Nat.{_%_}
+use Rattle.market.specs.Orders.{eventOf}
 use Rattle.market.specs.declared.order.Order.{Order}
 use Rattle.exchange.specs.State.{brokenOf}
 use Rattle.exchange.specs.Insert.{joined}
 use Rattle.exchange.specs.declared.state.Counts.{Counts}
 use Rattle.exchange.proofs.Counting.{sound-facts}
-use Rattle.broker.specs.Send.{eventOf, eventAt, eventFor, sentOne, SendsFit, sendOf}
+use Rattle.broker.specs.Send.{eventAt, eventFor, sentOne, SendsFit, sendOf}
 use Rattle.broker.specs.declared.state.Portfolio.{Portfolio}
 use Rattle.broker.specs.declared.state.UistBroker.{UistBroker}
-use Rattle.broker.specs.declared.send.OrderEvent.{OrderEvent}
+use Rattle.market.specs.declared.order.OrderEvent.{OrderEvent}
 use Rattle.broker.specs.declared.send.Sent.{Sent}
 use Rattle.broker.proofs.Sending.{OneFits, atSymbol, event-for, fits-here, takes-parts, sent-refused}
 use Rattle.broker.proofs.state.UistBroker.send_order.Statement.{statement}

@@ -1,0 +1,17 @@
+-- `no_orders` meets its contract: the array is of the blank order.
+use mathlib.Core.Path.{ap}
+use lib.ListN.{replicate}
+use borrow.Author.Needs.{needs}
+use Rattle.arrays.specs.Arrays.{blankOrders}
+use Rattle.arrays.proofs.no_orders.Statement.{statement}
+use Rattle.arrays.proofs.no_orders.Tie as tie
+
+market-sell-requires : tie.Need-market-sell-requires
+market-sell-requires c κs = search needs
+
+returns : tie.Need-returns
+unfolding blankOrders
+returns c = ap (replicate 1024) (c .market-sell .ensures)
+
+pub no-orders-spec : {M : Type 1} → statement M
+no-orders-spec = tie.close (tie.spec market-sell-requires returns)

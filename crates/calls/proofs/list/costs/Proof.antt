@@ -1,0 +1,68 @@
+-- `list::costs` is safe and ends. Assumes nothing.
+use Prim.Native.Nat.{_-_}
+use native.Mathlib.Omega.{arith}
+use Rattle.words.proofs.Words.{ordered, within}
+use borrow.Author.Needs.{needs}
+use Rattle.calls.proofs.list.costs.Statement.{statement}
+use Rattle.calls.proofs.list.costs.Tie as tie
+
+abbrev Inv-loop : tie.InvT-loop
+Inv-loop line at n list₀ at-word₀ i₀ list at-word i = Unit
+
+abbrev μ-loop : tie.MeasureT-loop
+μ-loop line at n list₀ at-word₀ i₀ list at-word i = n - i
+
+none-requires : tie.Need-none-requires Inv-loop μ-loop
+none-requires c κs = search needs
+
+loop-holds : tie.Need-loop-holds Inv-loop μ-loop
+loop-holds c = search needs
+
+word-at-requires : tie.Need-word-at-requires Inv-loop μ-loop
+word-at-requires c κs = search needs
+
+sub-cost : tie.Need-sub-cost Inv-loop μ-loop
+sub-cost c = omega (arith, ordered, within)
+
+part-cost-start : tie.Need-part-cost-start Inv-loop μ-loop
+part-cost-start c = omega (arith, ordered, within)
+
+part-cost-end : tie.Need-part-cost-end Inv-loop μ-loop
+part-cost-end c = within _ _ (c .word-at .ensures)
+
+cost-requires : tie.Need-cost-requires Inv-loop μ-loop
+cost-requires c κs = search needs
+
+with-requires : tie.Need-with-requires Inv-loop μ-loop
+with-requires c κs = search needs
+
+add-i : tie.Need-add-i Inv-loop μ-loop
+add-i c = search needs
+
+loop-less : tie.Need-loop-less Inv-loop μ-loop
+loop-less c = search needs
+
+loop-again : tie.Need-loop-again Inv-loop μ-loop
+loop-again c = search needs
+
+returns : tie.Need-returns Inv-loop μ-loop
+returns c = search needs
+
+pub costs-spec : {M : Type 1} → statement M
+costs-spec =
+    tie.close
+    (tie.spec
+    Inv-loop
+    μ-loop
+    none-requires
+    loop-holds
+    word-at-requires
+    sub-cost
+    part-cost-start
+    part-cost-end
+    cost-requires
+    with-requires
+    add-i
+    loop-less
+    loop-again
+    returns)

@@ -1,0 +1,76 @@
+-- `list::orders` is safe and ends. Assumes nothing.
+use Prim.Native.Nat.{_-_}
+use native.Mathlib.Omega.{arith}
+use Rattle.words.proofs.Words.{ordered, within}
+use borrow.Author.Needs.{needs}
+use Rattle.calls.proofs.list.orders.Statement.{statement}
+use Rattle.calls.proofs.list.orders.Tie as tie
+
+abbrev Inv-loop : tie.InvT-loop
+Inv-loop line at n list₀ at-word₀ i₀ list at-word i = Unit
+
+abbrev μ-loop : tie.MeasureT-loop
+μ-loop line at n list₀ at-word₀ i₀ list at-word i = 1024 - i
+
+market-sell-requires : tie.Need-market-sell-requires Inv-loop μ-loop
+market-sell-requires c κs = search needs
+
+loop-holds : tie.Need-loop-holds Inv-loop μ-loop
+loop-holds c = search needs
+
+word-at-requires : tie.Need-word-at-requires Inv-loop μ-loop
+word-at-requires c κs = search needs
+
+sub-order : tie.Need-sub-order Inv-loop μ-loop
+sub-order c = omega (arith, ordered, within)
+
+part-order-start : tie.Need-part-order-start Inv-loop μ-loop
+part-order-start c = omega (arith, ordered, within)
+
+part-order-end : tie.Need-part-order-end Inv-loop μ-loop
+part-order-end c = within _ _ (c .word-at .ensures)
+
+order-requires : tie.Need-order-requires Inv-loop μ-loop
+order-requires c κs = search needs
+
+mul-list : tie.Need-mul-list Inv-loop μ-loop
+mul-list c = search needs
+
+array-set-from-list : tie.Need-array-set-from-list Inv-loop μ-loop
+array-set-from-list c = search needs
+
+add-i : tie.Need-add-i Inv-loop μ-loop
+add-i c = search needs
+
+loop-less : tie.Need-loop-less Inv-loop μ-loop
+loop-less c = search needs
+
+loop-again : tie.Need-loop-again Inv-loop μ-loop
+loop-again c = search needs
+
+returns : tie.Need-returns Inv-loop μ-loop
+returns c = search needs
+
+returns-2 : tie.Need-returns-2 Inv-loop μ-loop
+returns-2 c = search needs
+
+pub orders-spec : {M : Type 1} → statement M
+orders-spec =
+    tie.close
+    (tie.spec
+    Inv-loop
+    μ-loop
+    market-sell-requires
+    loop-holds
+    word-at-requires
+    sub-order
+    part-order-start
+    part-order-end
+    order-requires
+    mul-list
+    array-set-from-list
+    add-i
+    loop-less
+    loop-again
+    returns
+    returns-2)
