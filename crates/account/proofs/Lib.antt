@@ -7,3 +7,4 @@ pub mod Rows
 pub mod Callees
 pub mod Mutable
 pub mod Plain
+pub mod Telling

@@ -1,6 +1,6 @@
 -- A function over a lent account, whatever it does to the cash:
 --     fn f(account: &mut Account, value: f64) -> BrokerCashEvent
---         ensures { λ r. ⌜ (r ≡ of (now (account .entry) .cash) value .event) × (now (account .exit) ≡ accountOf (of (now (account .entry) .cash) value)) ⌝ }
+--         ensures { λ r. ⌜ (r ≡ of (now (account .entry) .cash) value .event) × (now (account .exit) ≡ accountOf (of (now (account .entry) .cash) value)) × Tells r (number (now (account .entry) .cash) value) value ⌝ }
 --     {
 --         let a = *account;
 --         let m = key(a, value);
@@ -10,9 +10,10 @@
 --     }
 -- Assumes nothing.
 use mir.Syntax.{Body, Home, Name, Opd, valueLocal, assign, place, rvOpd, copy, deref, call, seq, return}
-use Rattle.walks.proofs.Walk.{Base, R, ty, rV, same, hasV, freeV, fr, gn, drop, gets, gives, returns, Knows, _&_, no-more, real, by-val, by-float, calls, Contract, Task, Derives, Owes, Runs, refl, false, _≡_, _∙_, ap, List, [], _∷_, ℕ, Ty, Float, binary64, pMut, pFloat, Sc, sFloat}
+use Rattle.walks.proofs.Walk.{Base, R, ty, rV, same, hasV, freeV, fr, gn, drop, gets, gives, returns, Knows, _&_, no-more, real, by-val, by-float, calls, Contract, Task, Derives, Owes, Runs, refl, false, _≡_, sym, _∙_, ap, subst, List, [], _∷_, ℕ, Ty, Float, binary64, pMut, pFloat, Sc, sFloat}
 use Rattle.walks.proofs.Task as Task
-use Rattle.account.specs.Account.{accountOf}
+use Rattle.account.specs.Account.{accountOf, Tells}
+use Rattle.account.specs.declared.BrokerCashEvent.{BrokerCashEvent}
 use Rattle.account.specs.declared.Moved.{Moved}
 use Rattle.account.proofs.Rows.{account, broker-cash-event, moved}
 use Rattle.account.proofs.Callees.{mover, account-of, event-of}
@@ -23,8 +24,8 @@ F = sFloat binary64
 abbrev local : ℕ → Opd
 local n = copy (place n [])
 
--- `of` is what it does, `key` the function by value that does it
-module _ (of : Float → Float → Moved) where
+-- `of` is what it does, `number` what it draws, and `key` the function by value that does it
+module _ (of : Float → Float → Moved) (number : Float → Float → ℕ) where
   abbrev pub contract : Contract
   contract = record {
     n = 1;
@@ -32,10 +33,14 @@ module _ (of : Float → Float → Moved) where
     r = rV broker-cash-event;
     requires = false;
     Pre = λ κs a. Unit {0};
-    Post = λ κs a z e. (z ≡ of (a .0 .now .cash) (a .1 .0) .event) × (e .0 .now ≡ accountOf (of (a .0 .now .cash) (a .1 .0)));
+    Post = λ κs a z e. (z ≡ of (a .0 .now .cash) (a .1 .0) .event) × (e .0 .now ≡ accountOf (of (a .0 .now .cash) (a .1 .0))) × Tells z (number (a .0 .now .cash) (a .1 .0)) (a .1 .0);
   }
 
-  module _ (key : Name) where
+  -- the event that is answered tells what that of `of` does
+  told : (cash value : Float) (e : BrokerCashEvent) → e ≡ of cash value .event → Tells (of cash value .event) (number cash value) value → Tells e (number cash value) value
+  told cash value e p t = subst (λ (x : BrokerCashEvent). Tells x (number cash value) value) (sym p) t
+
+  module _ (tells : (cash value : Float) → Tells (of cash value .event) (number cash value) value) (key : Name) where
     abbrev locals : List Ty
     locals = ty account ∷ ty moved ∷ ty account ∷ []
 
@@ -66,7 +71,19 @@ module _ (of : Float → Float → Moved) where
         drop 2 (fr F) (drop 3 (freeV account) (drop 4 (freeV moved) (drop 5 (freeV account) (returns tt)))))))))
 
     asked : Owes task derived
-    asked o kn κs qs a good pre bs = λ _. (λ _. tt, λ m. (λ _. tt, λ b. (λ _. tt, λ z. ((refl, (tt, tt)), (z .5 ∙ ap (λ (x : Moved). x .event) (m .5), b .5 ∙ ap accountOf (m .5))))))
+    asked o kn κs qs a good pre bs =
+        λ _. (
+          λ _. tt,
+          λ m. (
+            λ _. tt,
+            λ b. (
+              λ _. tt,
+              λ z.
+                  let event = z .5 ∙ ap (λ (x : Moved). x .event) (m .5) in
+                  ((refl, (tt, tt)), (event, b .5 ∙ ap accountOf (m .5), told (a .0 .now .cash) (a .1 .0) (z .1) event (tells (a .0 .now .cash) (a .1 .0)))),
+            ),
+          ),
+        )
 
     -- it meets its contract
     pub runs : (o : Base) → Kn o → Runs task o

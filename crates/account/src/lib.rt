@@ -1,7 +1,7 @@
 // Cash in an account: credit, debit and forced debit move it in the account itself, which is lent.
 // The functions with plain parameters below them open an account of some cash and lend it.
 ghost use mathlib.Core.Path.{_≡_};
-ghost use Rattle.account.specs.Account.{creditOf, debitOf, forceOf, accountOf};
+ghost use Rattle.account.specs.Account.{creditOf, debitOf, forceOf, accountOf, debitNumber, noNumber, Tells};
 
 mod value;
 
@@ -34,7 +34,7 @@ pub struct Moved {
 }
 
 pub fn credit(account: &mut Account, value: f64) -> BrokerCashEvent
-    ensures { λ r. ⌜ (r ≡ creditOf (now (account .entry) .cash) value .event) × (now (account .exit) ≡ accountOf (creditOf (now (account .entry) .cash) value)) ⌝ }
+    ensures { λ r. ⌜ (r ≡ creditOf (now (account .entry) .cash) value .event) × (now (account .exit) ≡ accountOf (creditOf (now (account .entry) .cash) value)) × Tells r (noNumber (now (account .entry) .cash) value) value ⌝ }
 {
     let a = *account;
     let m = credit_to(a, value);
@@ -45,7 +45,7 @@ pub fn credit(account: &mut Account, value: f64) -> BrokerCashEvent
 
 // Fails above cash.
 pub fn debit(account: &mut Account, value: f64) -> BrokerCashEvent
-    ensures { λ r. ⌜ (r ≡ debitOf (now (account .entry) .cash) value .event) × (now (account .exit) ≡ accountOf (debitOf (now (account .entry) .cash) value)) ⌝ }
+    ensures { λ r. ⌜ (r ≡ debitOf (now (account .entry) .cash) value .event) × (now (account .exit) ≡ accountOf (debitOf (now (account .entry) .cash) value)) × Tells r (debitNumber (now (account .entry) .cash) value) value ⌝ }
 {
     let a = *account;
     let m = debit_from(a, value);
@@ -56,7 +56,7 @@ pub fn debit(account: &mut Account, value: f64) -> BrokerCashEvent
 
 // Cash may fall below zero.
 pub fn debit_force(account: &mut Account, value: f64) -> BrokerCashEvent
-    ensures { λ r. ⌜ (r ≡ forceOf (now (account .entry) .cash) value .event) × (now (account .exit) ≡ accountOf (forceOf (now (account .entry) .cash) value)) ⌝ }
+    ensures { λ r. ⌜ (r ≡ forceOf (now (account .entry) .cash) value .event) × (now (account .exit) ≡ accountOf (forceOf (now (account .entry) .cash) value)) × Tells r (noNumber (now (account .entry) .cash) value) value ⌝ }
 {
     let a = *account;
     let m = force_debit_from(a, value);
@@ -66,7 +66,7 @@ pub fn debit_force(account: &mut Account, value: f64) -> BrokerCashEvent
 }
 
 pub fn credited(cash: f64, value: f64) -> Moved
-    ensures { λ r. ⌜ r ≡ creditOf cash value ⌝ }
+    ensures { λ r. ⌜ (r ≡ creditOf cash value) × Tells (r .event) (noNumber cash value) value ⌝ }
 {
     let mut a = with_cash(cash);
     let e = credit(&mut a, value);
@@ -74,7 +74,7 @@ pub fn credited(cash: f64, value: f64) -> Moved
 }
 
 pub fn debited(cash: f64, value: f64) -> Moved
-    ensures { λ r. ⌜ r ≡ debitOf cash value ⌝ }
+    ensures { λ r. ⌜ (r ≡ debitOf cash value) × Tells (r .event) (debitNumber cash value) value ⌝ }
 {
     let mut a = with_cash(cash);
     let e = debit(&mut a, value);
@@ -82,7 +82,7 @@ pub fn debited(cash: f64, value: f64) -> Moved
 }
 
 pub fn force_debited(cash: f64, value: f64) -> Moved
-    ensures { λ r. ⌜ r ≡ forceOf cash value ⌝ }
+    ensures { λ r. ⌜ (r ≡ forceOf cash value) × Tells (r .event) (noNumber cash value) value ⌝ }
 {
     let mut a = with_cash(cash);
     let e = debit_force(&mut a, value);

@@ -19,6 +19,9 @@ use Rattle.lent.specs.declared.uist.SendAnswer.{SendAnswer}
 use Rattle.lent.specs.declared.uist.WalkAnswer.{WalkAnswer}
 use Rattle.lent.specs.declared.uist.UpdateAnswer.{UpdateAnswer}
 use Rattle.arrays.specs.Arrays.{tradableIn, fetchedIn, weightsIn, ordersIn, lentOf, pastLent, blankEvents, blankOrders}
+use Rattle.reads.specs.Answers.{AnswersList}
+use Rattle.reads.specs.declared.uist.ListRead.{ListRead}
+use Rattle.arrays.specs.Reads.{ReadOn}
 use Rattle.arrays.specs.declared.Lists.{Lists}
 use Rattle.arrays.specs.declared.Orders.{Orders}
 use Rattle.arrays.specs.declared.CheckedList.{CheckedList}
@@ -81,3 +84,13 @@ update-answers b x log logged t f w e after k l m r n y z is-t is-k is-f is-l is
       rw (lent-back (x .room) r e after is-r all same) (rw (is-t, is-k, is-f, is-l, is-w, is-m, is-e, is-r) at done),
       past-back (x .room) r e after is-r all same ∙ ap (pastLent (x .room)) is-e,
     )
+
+-- ---- a read of one of the broker's lists, over the row type
+
+pub read-answers : {A : Type 0} (b : UistBroker) (rows : List A) (room r : ℕ) (blank e after : List A) (y : ListRead) → e ≡ blank → r ≡ min room 1024 → length e ≡ 1024 →
+    length after ≡ length (take r e) → AnswersList b rows (take r e) y after → ReadOn b rows room blank y (after ++ drop r e)
+read-answers b rows room r blank e after y is-e is-r all same done =
+    record {
+      lent = rw (lent-back room r e after is-r all same) (rw (is-e, is-r) at done);
+      past = past-back room r e after is-r all same ∙ ap (pastLent room) is-e;
+    }

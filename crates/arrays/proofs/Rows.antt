@@ -12,7 +12,14 @@ use Rattle.arrays.proofs.SentList as Se
 use Rattle.arrays.proofs.SentList.Laws as Se′
 use Rattle.arrays.proofs.WalkedList as Wa
 use Rattle.arrays.proofs.WalkedList.Laws as Wa′
+use Rattle.arrays.proofs.read.HoldingsRead as Ho
+use Rattle.arrays.proofs.read.HoldingsRead.Laws as Ho′
+use Rattle.arrays.proofs.read.QuotesRead as Qu
+use Rattle.arrays.proofs.read.QuotesRead.Laws as Qu′
+use Rattle.arrays.proofs.read.CostsRead as Co
+use Rattle.arrays.proofs.read.CostsRead.Laws as Co′
 use Rattle.lent.proofs.UistRows as Uist
+use Rattle.reads.proofs.RowTypes.{list-read}
 use Rattle.walks.proofs.Walk.{Kin, struct}
 
 abbrev pub lists : Kin
@@ -32,3 +39,12 @@ sent-list = struct Se.the-type Se′.the-laws Se′.the-copy Se′.the-plain (re
 
 abbrev pub walked-list : Kin
 walked-list = struct Wa.the-type Wa′.the-laws Wa′.the-copy Wa′.the-plain (record { answer = Uist.walk-answer .none; orders = [] }) tt
+
+abbrev pub holdings-read : Kin
+holdings-read = struct Ho.the-type Ho′.the-laws Ho′.the-copy Ho′.the-plain (record { answer = list-read .none; rows = [] }) tt
+
+abbrev pub quotes-read : Kin
+quotes-read = struct Qu.the-type Qu′.the-laws Qu′.the-copy Qu′.the-plain (record { answer = list-read .none; rows = [] }) tt
+
+abbrev pub costs-read : Kin
+costs-read = struct Co.the-type Co′.the-laws Co′.the-copy Co′.the-plain (record { answer = list-read .none; rows = [] }) tt

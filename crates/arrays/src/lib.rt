@@ -7,6 +7,7 @@ ghost use Rattle.lent.specs.Answers.{AnswersCheck, AnswersSend, AnswersWalk, An
 ghost use Rattle.arrays.specs.Arrays.{tradableIn, fetchedIn, weightsIn, ordersIn, lentOf, pastLent, blankEvents, blankOrders};
 
 pub mod clock;
+pub mod read;
 
 use broker::build::Built;
 use broker::state::UistBroker;

@@ -2,7 +2,9 @@
 pub mod Drawing
 pub mod Symbols
 pub mod Sending
+pub mod Cashing
 pub mod Selling
 pub mod Settling
 pub mod Weighing
+pub mod Walking
 pub mod Updating

@@ -1,7 +1,11 @@
 -- Deposits and withdrawals on the program's state. Definitions only.
-use mathlib.Core.Bool.{cond}
+use mathlib.Core.Bool.{cond, not}
+use mathlib.Core.List.{List, [], _∷_}
+use mathlib.Core.Path.{_≡_}
 use lib.Ieee.{Float}
 use lib.Ieee.Scale.{finite}
+use Rattle.market.specs.Numbers.{Test, _draws_, drawn}
+use Rattle.account.specs.Account.{Tells}
 use Rattle.account.specs.declared.BrokerCashEvent.{BrokerCashEvent}
 use Rattle.account.specs.declared.BrokerCashEvent.the-variants.{WithdrawSuccess, WithdrawFailure, DepositSuccess, OperationFailure, NotFinite, Broken}
 use Rattle.exchange.specs.State.{brokenOf}
@@ -40,3 +44,17 @@ unfoldable pub withdrawOf : UistBroker → Float → CashMoved
 withdrawOf b a =
     cashMoved b a
     (cond (below (cashOf b) a) (answered b (WithdrawFailure a)) (answered (withCash b (minus (cashOf b) a)) (WithdrawSuccess a)))
+
+-- ---- the numbers of cash movers
+
+abbrev pub depositTests : UistBroker → Float → List Test
+depositTests b a = (brokenOf (b .exchange .counts) draws 16) ∷ (not (finite a) draws 2) ∷ (b .portfolio .funds .failed draws 4) ∷ []
+
+abbrev pub withdrawTests : UistBroker → Float → List Test
+withdrawTests b a =
+    (brokenOf (b .exchange .counts) draws 16) ∷ (not (finite a) draws 2) ∷ (b .portfolio .funds .failed draws 4) ∷ (below (cashOf b) a draws 12) ∷ []
+
+-- what a mover answers: x, whose event tells the number that the tests draw, and the amount
+pub record MovesCash (x : CashMoved) (tests : List Test) (a : Float) (r : CashMoved) : Type 0 where
+  pub moved : r ≡ x
+  pub tells : Tells (r .event) (drawn tests) a

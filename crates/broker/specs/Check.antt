@@ -117,4 +117,5 @@ pub record Checks (b : UistBroker) (t f : Table) (n : ℕ) (r : Checked) : Type 
   pub trades : r .trades ≡ tickOf (b .exchange) t .trades
   pub count : r .count ≡ unlessDrawn (r .number) (length (tradesOf (rowAt t) (restingOf (b .exchange)))) 0
   pub first : r .first ≡ unlessDrawn (r .number) (b .exchange .counts .logged) 0
-  pub queued : r .queued ≤ heldCount (moneyOf (bookedBy b t f .portfolio))
+  -- sells queued: left free, at most the number of held symbols once the trades are booked; 0 where a number is drawn
+  pub queued : r .queued ≤ unlessDrawn (r .number) (heldCount (moneyOf (bookedBy b t f .portfolio))) 0

@@ -25,6 +25,7 @@ use Rattle.broker.specs.Send.{sentAll, eventsOf}
 use Rattle.broker.specs.Liquidate.{heldCount}
 use Rattle.broker.specs.Check.{checkedBy, bookedBy}
 use Rattle.broker.specs.Update.{planAfter, weighedBy}
+use Rattle.broker.specs.Walk.{lenderTests}
 use Rattle.broker.specs.declared.state.UistBroker.{UistBroker}
 use Rattle.broker.specs.declared.build.Built.{Built}
 use Rattle.market.specs.declared.order.OrderEvent.{OrderEvent}
@@ -39,7 +40,7 @@ logTest b log = (not (eqb (length log) (b .exchange .counts .room)) || brokenOf 
 -- ---- a list of orders: 16, 15, then each order's own event
 
 abbrev pub sendListTests : UistBroker → List Order → List OrderEvent → List Test
-sendListTests b l e = (brokenOf (b .exchange .counts) draws 16) ∷ (ltb (length e) (length l) draws 15) ∷ []
+sendListTests b l e = lenderTests (b .exchange .counts) (length l) (length e)
 
 unfoldable pub sendListNumber : UistBroker → List Order → List OrderEvent → ℕ
 sendListNumber b l e = drawn (sendListTests b l e)
@@ -72,9 +73,9 @@ checkTraded b t f log = unlessDrawn (checkFor b t f log) (length (tradesIn b t))
 unfoldable pub checkLog : UistBroker → List Quote → List Quote → List Trade → List Trade
 checkLog b t f log = unlessDrawn (checkFor b t f log) (logWith b t log) log
 
--- how many symbols are held once the trades are booked: what the free count of sells queued is at most
-unfoldable pub heldAfter : UistBroker → List Quote → List Quote → ℕ
-heldAfter b t f = heldCount (moneyOf (bookedBy b (tableOf t) (tableOf f) .portfolio))
+-- what the free count of sells queued is at most: how many symbols are held once the trades are booked; 0 where a number is drawn
+unfoldable pub heldAfter : UistBroker → List Quote → List Quote → List Trade → ℕ
+heldAfter b t f log = unlessDrawn (checkFor b t f log) (heldCount (moneyOf (bookedBy b (tableOf t) (tableOf f) .portfolio))) 0
 
 -- ---- an update: 16, 15, then the rows: tradable, fetched, weights; then 13
 

@@ -6,6 +6,7 @@ pub mod Cash
 pub mod Liquidate
 pub mod Check
 pub mod Weigh
+pub mod Walk
 pub mod Read
 pub mod Update
 pub mod Lent

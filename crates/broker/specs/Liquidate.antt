@@ -1,6 +1,6 @@
 -- Liquidation on the program's state. Definitions only.
 use Prim.Native.Nat.{ℕ, _≤_}
-use mathlib.Core.Bool.{Bool, true, false, cond}
+use mathlib.Core.Bool.{Bool, true, false, not, cond}
 use mathlib.Core.Path.{_≡_}
 use mathlib.Core.List.{List, [], _∷_}
 use mathlib.Core.Option.{Option, none, some}
@@ -8,6 +8,7 @@ use lib.Ieee.{Float}
 use lib.Ieee.Scale.{finite}
 use lib.ListN.{length}
 use Rattle.lists.specs.Lists.{keep, given}
+use Rattle.market.specs.Numbers.{Test, _draws_}
 use Rattle.market.specs.declared.order.Order.{Order}
 use Rattle.account.specs.declared.BrokerCashEvent.the-variants.{WithdrawSuccess, WithdrawFailure, NotFinite, Broken}
 use Rattle.exchange.specs.State.{brokenOf}
@@ -70,3 +71,7 @@ liquidateOf b a =
     (cond (finite a)
     (answered (liquidatedBy b a) (cond (succeeds (salesOf b a)) (WithdrawSuccess a) (WithdrawFailure a)))
     (answered b (NotFinite a)))
+
+-- its numbers: 16, 2, 12; not 4
+abbrev pub liquidateTests : UistBroker → Float → List Test
+liquidateTests b a = (brokenOf (b .exchange .counts) draws 16) ∷ (not (finite a) draws 2) ∷ (not (succeeds (salesOf b a)) draws 12) ∷ []

@@ -1,9 +1,9 @@
 -- What a broker tells of itself, with the numbers of those who ask: 16; 1 for a symbol above 255; 2 for what is not finite. Definitions only.
 use Prim.Native.Nat.{ℕ}
-use mathlib.Core.Bool.{Bool, not, _||_, cond}
+use mathlib.Core.Bool.{Bool, true, false, not, _||_}
 use mathlib.Core.Path.{_≡_}
 use mathlib.Core.List.{[], _∷_}
-use mathlib.Core.Option.{Option, none}
+use mathlib.Core.Option.{Option, none, some}
 use lib.Dec.{ltb}
 use lib.Ieee.{Float}
 use lib.Ieee.Scale.{finite}
@@ -15,7 +15,8 @@ use Rattle.costs.specs.Costs.{tradeImpactTotal, tradeCosts}
 use Rattle.costs.specs.Kept.{costsOf}
 use Rattle.exchange.specs.State.{brokenOf}
 use Rattle.exchange.specs.declared.state.Counts.{Counts}
-use Rattle.rules.specs.Values.{valueOf, totalValue, liquidationValue}
+use Rattle.lists.specs.Lists.{given}
+use Rattle.rules.specs.Values.{valueOf, saleBudget, totalValue, liquidationValue}
 use Rattle.broker.specs.State.{moneyOf, amountIn}
 use Rattle.broker.specs.Send.{quoteIn}
 use Rattle.broker.specs.declared.state.UistBroker.{UistBroker}
@@ -55,11 +56,14 @@ readFloat x n = record { value = unlessDrawn n x zero64; number = n }
 unfoldable pub readCount : ℕ → ℕ → CountRead
 readCount k n = record { count = unlessDrawn n k 0; number = n }
 
-abbrev pub stateOf : Bool → BrokerState
-stateOf failed = cond failed Failed Ready
+-- what a `BrokerState` says: is the broker Failed?
+abbrev pub failedIn : BrokerState → Bool
+failedIn Ready = false
+failedIn Failed = true
 
-unfoldable pub readState : Bool → ℕ → StateRead
-readState failed n = record { state = stateOf failed; number = n }
+pub record ReadsState (failed : Bool) (n : ℕ) (r : StateRead) : Type 0 where
+  pub state : failedIn (r .state) ≡ failed
+  pub number : r .number ≡ n
 
 unfoldable pub readImpact : Impact → ℕ → ImpactRead
 readImpact i n = record { impact = unlessDrawn n i (record { budget = zero64; price = zero64 }); number = n }
@@ -77,6 +81,10 @@ pendingOf b s = moneyOf (b .portfolio) .pending s
 
 abbrev pub valueHere : UistBroker → ℕ → Option Float
 valueHere b s = valueOf (moneyOf (b .portfolio)) s
+
+-- what the costs leave of it in a sale
+abbrev pub valueSold : UistBroker → ℕ → Option Float
+valueSold b s = given (valueHere b s) none (λ x. some (saleBudget (moneyOf (b .portfolio)) x))
 
 abbrev pub totalOf : UistBroker → Float
 totalOf b = totalValue (moneyOf (b .portfolio))

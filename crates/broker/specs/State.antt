@@ -54,5 +54,8 @@ amountIn Missing = none
 abbrev pub addedTo : Float → Option Float → Float
 addedTo sum a = given a sum (λ x. plus sum x)
 
+abbrev pub soldFor : List BrokerCost → Option Float → Option Float
+soldFor costs a = given a none (λ x. some (tradeImpactTotal costs x x false .budget))
+
 abbrev pub addedSale : List BrokerCost → Float → Option Float → Float
 addedSale costs sum a = given a sum (λ x. plus sum (tradeImpactTotal costs x x false .budget))

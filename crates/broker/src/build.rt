@@ -11,6 +11,7 @@ use costs::BrokerCost;
 use costs::TradeCosts;
 use exchange::state::Counts;
 use exchange::state::UistV1;
+use market::table::ReadTable;
 use market::table::Table;
 
 // The broker, and the number drawn, or 0. Where a number is drawn no broker is made: what stands
@@ -84,9 +85,10 @@ fn no_broker() -> UistBroker
 
 impl UistBroker {
     // A fresh broker for a log of `room` rows; the table's rows are the first latest quotes.
-    pub fn build(costs: TradeCosts, first: Table, room: u64) -> Built
-        ensures { λ r. ⌜ r ≡ buildOf costs first room ⌝ }
+    pub fn build(costs: TradeCosts, first: ReadTable, room: u64) -> Built
+        ensures { λ r. ⌜ r ≡ buildOf costs (first .table) room ⌝ }
     {
+        let latest = first.table();
         let fault = cost_fault(costs);
         if fault != 0 {
             return Built {
@@ -94,16 +96,16 @@ impl UistBroker {
                 number: fault,
             };
         }
-        if first.fault != 0 {
+        if latest.fault != 0 {
             return Built {
                 broker: no_broker(),
-                number: first.fault,
+                number: latest.fault,
             };
         }
         let exchange = UistV1::new(room);
         let funds = Funds::none();
         let portfolio = Portfolio {
-            latest: first,
+            latest: latest,
             funds: funds,
             costs: costs,
         };

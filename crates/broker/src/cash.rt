@@ -1,6 +1,6 @@
 // Cash in and out of a broker.
 ghost use mathlib.Core.Path.{_≡_};
-ghost use Rattle.broker.specs.Cash.{withCash, depositOf, withdrawOf};
+ghost use Rattle.broker.specs.Cash.{withCash, depositOf, withdrawOf, depositTests, withdrawTests, MovesCash};
 use crate::state::UistBroker;
 use account::BrokerCashEvent;
 
@@ -25,7 +25,7 @@ impl UistBroker {
     }
 
     pub fn deposit_cash(self, cash: f64) -> CashMoved
-        ensures { λ r. ⌜ r ≡ depositOf self cash ⌝ }
+        ensures { λ r. ⌜ MovesCash (depositOf self cash) (depositTests self cash) cash r ⌝ }
     {
         let exchange = self.exchange;
         let counts = exchange.counts;
@@ -58,7 +58,7 @@ impl UistBroker {
     }
 
     pub fn withdraw_cash(self, cash: f64) -> CashMoved
-        ensures { λ r. ⌜ r ≡ withdrawOf self cash ⌝ }
+        ensures { λ r. ⌜ MovesCash (withdrawOf self cash) (withdrawTests self cash) cash r ⌝ }
     {
         let exchange = self.exchange;
         let counts = exchange.counts;

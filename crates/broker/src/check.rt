@@ -14,6 +14,7 @@ use crate::state::Portfolio;
 use crate::state::UistBroker;
 use exchange::state::Counts;
 use exchange::state::UistV1;
+use market::table::ReadTable;
 use market::table::Table;
 use market::trade::Trade;
 use market::trade::TradeType;
@@ -169,12 +170,13 @@ impl UistBroker {
     }
 
     // A check on tables that were read, for a log of this length.
-    pub fn check(self, tradable: Table, fetched: Table, log_length: usize) -> Checked
-        ensures { λ r. ⌜ Checks self tradable fetched «log_length» r ⌝ }
+    pub fn check(self, tradable: ReadTable, fetched: ReadTable, log_length: usize) -> Checked
+        ensures { λ r. ⌜ Checks self (tradable .table) (fetched .table) «log_length» r ⌝ }
     {
         let exchange = self.exchange;
         let portfolio = self.portfolio;
-        let number = check_fault(exchange.counts, log_length, tradable.fault, fetched.fault);
+        let rows = fetched.table();
+        let number = check_fault(exchange.counts, log_length, tradable.fault(), rows.fault);
         let x = exchange.tick(tradable);
         let trades = x.trades;
         if number != 0 {
@@ -187,7 +189,7 @@ impl UistBroker {
                 number: number,
             };
         }
-        let latest = merge(portfolio.latest, fetched);
+        let latest = merge(portfolio.latest, rows);
         let funds = settle(portfolio.funds, trades, x.count);
         let costs = portfolio.costs;
         let ticked = x.exchange;

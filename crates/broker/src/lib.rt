@@ -8,4 +8,5 @@ pub mod send;
 pub mod state;
 pub mod update;
 pub mod value;
+pub mod walk;
 pub mod weigh;

@@ -6,7 +6,8 @@ ghost use Rattle.broker.specs.Send.{SendsFit};
 ghost use Rattle.rules.specs.Values.{symbols};
 ghost use Rattle.rules.specs.Liquidation.{lastSale, walk, salesFor};
 ghost use Rattle.broker.specs.State.{moneyOf};
-ghost use Rattle.broker.specs.Liquidate.{partIn, soldIn, salesIn, Liquidates, liquidateOf};
+ghost use Rattle.broker.specs.Liquidate.{partIn, soldIn, salesIn, Liquidates, liquidateOf, liquidateTests};
+ghost use Rattle.broker.specs.Cash.{MovesCash};
 use crate::cash::CashMoved;
 use crate::send::OrderList;
 use crate::state::Portfolio;
@@ -160,7 +161,7 @@ impl UistBroker {
     }
 
     pub fn withdraw_cash_with_liquidation(self, cash: f64) -> CashMoved
-        ensures { λ r. ⌜ r ≡ liquidateOf self cash ⌝ }
+        ensures { λ r. ⌜ MovesCash (liquidateOf self cash) (liquidateTests self cash) cash r ⌝ }
     {
         let exchange = self.exchange;
         let counts = exchange.counts;

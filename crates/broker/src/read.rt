@@ -1,7 +1,7 @@
 // What a broker tells of itself. A call draws 16 where the counts do not hold together, then 1 for a
 // symbol above 255, or 2 for an amount that is not finite; its value is then missing or 0.0.
 ghost use mathlib.Core.Path.{_≡_};
-ghost use Rattle.broker.specs.Read.{brokerNumber, symbolNumber, amountsNumber, ReadsQuote, ReadsAmount, readFloat, readCount, readState, readImpact, quoteOf, holdingOf, pendingOf, valueHere, totalOf, liquidationOf, cashHere, impactOf, costsHere};
+ghost use Rattle.broker.specs.Read.{brokerNumber, symbolNumber, amountsNumber, ReadsQuote, ReadsAmount, ReadsState, readFloat, readCount, readImpact, quoteOf, holdingOf, pendingOf, valueHere, valueSold, totalOf, liquidationOf, cashHere, impactOf, costsHere};
 use crate::send::Latest;
 use crate::state::UistBroker;
 use crate::value;
@@ -196,6 +196,19 @@ impl UistBroker {
         }
     }
 
+    // What the broker's costs leave of a position's value in a sale.
+    pub fn get_position_liquidation_value(self, symbol: u32) -> AmountRead
+        ensures { λ r. ⌜ ReadsAmount (valueSold self symbol) (symbolNumber (self .exchange .counts) symbol) r ⌝ }
+    {
+        let portfolio = self.portfolio;
+        let x = self.get_position_value(symbol);
+        let a = x.amount;
+        AmountRead {
+            amount: value::sold(portfolio.costs, a),
+            number: x.number,
+        }
+    }
+
     pub fn get_total_value(self) -> FloatRead
         ensures { λ r. ⌜ r ≡ readFloat (totalOf self) (brokerNumber (self .exchange .counts)) ⌝ }
     {
@@ -225,7 +238,7 @@ impl UistBroker {
     }
 
     pub fn get_broker_state(self) -> StateRead
-        ensures { λ r. ⌜ r ≡ readState (self .portfolio .funds .failed) (brokerNumber (self .exchange .counts)) ⌝ }
+        ensures { λ r. ⌜ ReadsState (self .portfolio .funds .failed) (brokerNumber (self .exchange .counts)) r ⌝ }
     {
         let exchange = self.exchange;
         let portfolio = self.portfolio;
@@ -248,16 +261,10 @@ impl UistBroker {
         ensures { λ r. ⌜ r ≡ readCount (self .exchange .counts .logged) (brokerNumber (self .exchange .counts)) ⌝ }
     {
         let exchange = self.exchange;
-        let counts = exchange.counts;
-        if counts.broken() {
-            return CountRead {
-                count: 0,
-                number: 16,
-            };
-        }
+        let x = exchange.executed_trade_count();
         CountRead {
-            count: counts.logged,
-            number: 0,
+            count: x.count,
+            number: x.number,
         }
     }
 
@@ -279,7 +286,7 @@ impl UistBroker {
                 number: number,
             };
         }
-        let net = costs::trade_impact_total(costs, gross_budget, gross_price, is_buy);
+        let net = costs::net_of_costs(costs, gross_budget, gross_price, is_buy);
         ImpactRead {
             impact: net,
             number: 0,
@@ -294,6 +301,6 @@ impl UistBroker {
         let portfolio = self.portfolio;
         let costs = portfolio.costs;
         let number = amounts_fault(exchange.counts, quantity, value);
-        float_read(costs::calculate_trade_costs(costs, quantity, value), number)
+        float_read(costs::charges(costs, quantity, value), number)
     }
 }

@@ -15,7 +15,7 @@ use crate::weigh::Plan;
 use crate::weigh::Weights;
 use exchange::state::Counts;
 use market::order::OrderEvent;
-use market::table::Table;
+use market::table::ReadTable;
 use market::trade::Trade;
 
 // How long the lent lists are: the log, the list for events, and the rows of weights.
@@ -93,12 +93,12 @@ impl UistBroker {
     // Nothing is changed; the trades are those of the check's tick.
     fn refused_update(
         self,
-        tradable: Table,
-        fetched: Table,
+        tradable: ReadTable,
+        fetched: ReadTable,
         log_length: usize,
         number: u32,
     ) -> Updated
-        ensures { λ r. ⌜ r ≡ updateRefused self tradable number ⌝ }
+        ensures { λ r. ⌜ r ≡ updateRefused self (tradable .table) number ⌝ }
     {
         let checked = self.check(tradable, fetched, log_length);
         let trades = checked.trades;
@@ -117,15 +117,21 @@ impl UistBroker {
 
     // An update on tables and weights that were read. Past the refusals there is one way through, with
     // 13 or not: a return between would cost copies of all the state.
-    pub fn update(self, tradable: Table, fetched: Table, weights: Weights, x: Lengths) -> Updated
-        ensures { λ r. ⌜ Updates self tradable fetched weights x (updateNumber (self .exchange .counts) x (tradable .fault) (fetched .fault) (weights .fault)) r ⌝ }
+    pub fn update(
+        self,
+        tradable: ReadTable,
+        fetched: ReadTable,
+        weights: Weights,
+        x: Lengths,
+    ) -> Updated
+        ensures { λ r. ⌜ Updates self (tradable .table) (fetched .table) weights x (updateNumber (self .exchange .counts) x (tradable .table .fault) (fetched .table .fault) (weights .fault)) r ⌝ }
     {
         let exchange = self.exchange;
         let number = update_fault(
             exchange.counts,
             x,
-            tradable.fault,
-            fetched.fault,
+            tradable.fault(),
+            fetched.fault(),
             weights.fault,
         );
         if number != 0 {

@@ -6,7 +6,7 @@ ghost use Rattle.rules.specs.Amounts.{isZero};
 ghost use Rattle.rules.specs.Money.{unlessZero, orZero};
 ghost use Rattle.rules.specs.Values.{valueAt, totalValue, liquidationValue};
 ghost use Rattle.costs.specs.Kept.{costsOf};
-ghost use Rattle.broker.specs.State.{moneyOf, amountIn, addedTo, addedSale};
+ghost use Rattle.broker.specs.State.{moneyOf, amountIn, addedTo, addedSale, soldFor};
 use crate::state::Portfolio;
 use costs::TradeCosts;
 use market::quote::Quote;
@@ -49,13 +49,26 @@ fn added(sum: f64, a: Amount) -> f64
     }
 }
 
+// What a sale of the amount leaves after costs.
+pub(crate) fn sold(costs: TradeCosts, a: Amount) -> Amount
+    ensures { λ r. ⌜ amountIn r ≡ soldFor (costsOf costs) (amountIn a) ⌝ }
+{
+    match a {
+        Amount::Of(x) => {
+            let net = costs::net_of_costs(costs, x, x, false);
+            Amount::Of(net.budget)
+        }
+        Amount::Missing => Amount::Missing,
+    }
+}
+
 // The sum with what a sale of the amount leaves after costs.
 fn added_sale(sum: f64, costs: TradeCosts, a: Amount) -> f64
     ensures { λ r. ⌜ r ≡ addedSale (costsOf costs) sum (amountIn a) ⌝ }
 {
     match a {
         Amount::Of(x) => {
-            let net = costs::trade_impact_total(costs, x, x, false);
+            let net = costs::net_of_costs(costs, x, x, false);
             sum + net.budget
         }
         Amount::Missing => sum,
@@ -63,7 +76,7 @@ fn added_sale(sum: f64, costs: TradeCosts, a: Amount) -> f64
 }
 
 impl Portfolio {
-    pub fn get_total_value(self) -> f64
+    pub(crate) fn get_total_value(self) -> f64
         ensures { λ r. ⌜ r ≡ totalValue (moneyOf self) ⌝ }
     {
         let latest = self.latest;
@@ -79,7 +92,7 @@ impl Portfolio {
         sum
     }
 
-    pub fn get_liquidation_value(self) -> f64
+    pub(crate) fn get_liquidation_value(self) -> f64
         ensures { λ r. ⌜ r ≡ liquidationValue (moneyOf self) ⌝ }
     {
         let latest = self.latest;

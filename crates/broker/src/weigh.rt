@@ -18,11 +18,11 @@ use market::quote::Quote;
 use market::weight::Weight;
 
 // Weights by ascending symbol: the first `count` rows; `fault` is the number that the first bad row
-// drew, or 0.
+// drew, or 0. Its fields are the crate's own, so only reading rows makes one.
 pub struct Weights {
-    pub rows: [Weight; 257],
-    pub count: usize,
-    pub fault: u32,
+    pub(crate) rows: [Weight; 257],
+    pub(crate) count: usize,
+    pub(crate) fault: u32,
 }
 
 // The order that wanted shares come to, if it is `listed`.
@@ -70,10 +70,10 @@ fn shares_for(costs: TradeCosts, difference: f64, q: Quote) -> f64
     ensures { λ r. ⌜ r ≡ sharesFor (costsOf costs) difference q ⌝ }
 {
     if difference < 0.0 {
-        let net = costs::trade_impact_total(costs, -difference, q.bid, false);
+        let net = costs::net_of_costs(costs, -difference, q.bid, false);
         -floats::floor(net.budget / net.price)
     } else {
-        let net = costs::trade_impact_total(costs, difference, q.ask, true);
+        let net = costs::net_of_costs(costs, difference, q.ask, true);
         floats::floor(net.budget / net.price)
     }
 }
@@ -177,7 +177,7 @@ fn side_onto(list: OrderList, sells: bool, onto: OrderList) -> OrderList
 
 impl Portfolio {
     // The walk: 13 where there is no value is the caller's to draw, from `found`.
-    pub fn diff_against_target_weights(self, weights: Weights) -> Plan
+    pub(crate) fn diff_against_target_weights(self, weights: Weights) -> Plan
         ensures { λ r. ⌜ planIn r ≡ planOf (moneyOf self) (weighed weights) ⌝ }
     {
         let total = self.get_liquidation_value();

@@ -134,13 +134,10 @@ fn impact_in_turn(costs: TradeCosts, gross_budget: f64, gross_price: f64, is_buy
     net
 }
 
-// Without costs nothing is gone over, nor copied: this is asked for each position.
-pub fn trade_impact_total(
-    costs: TradeCosts,
-    gross_budget: f64,
-    gross_price: f64,
-    is_buy: bool,
-) -> Impact
+// What the costs leave of a budget and a price, for values that are worked out inside: nothing is
+// tested. A broker's `trade_impact_total` draws its numbers first. Without costs nothing is gone over,
+// nor copied: this is asked for each position.
+pub fn net_of_costs(costs: TradeCosts, gross_budget: f64, gross_price: f64, is_buy: bool) -> Impact
     ensures { λ r. ⌜ r ≡ tradeImpactTotal (costsOf costs) «gross_budget» «gross_price» «is_buy» ⌝ }
 {
     if costs.count == 0 {
@@ -152,7 +149,9 @@ pub fn trade_impact_total(
     impact_in_turn(costs, gross_budget, gross_price, is_buy)
 }
 
-pub fn calculate_trade_costs(costs: TradeCosts, quantity: f64, value: f64) -> f64
+// What the costs charge on a trade; nothing is tested. A broker's `calculate_trade_costs` draws its
+// numbers first.
+pub fn charges(costs: TradeCosts, quantity: f64, value: f64) -> f64
     ensures { λ r. ⌜ r ≡ tradeCosts (costsOf costs) quantity value ⌝ }
 {
     let mut sum: f64 = 0.0;

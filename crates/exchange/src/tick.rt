@@ -10,6 +10,7 @@ use crate::state::Booked;
 use crate::state::Counts;
 use crate::state::UistV1;
 use market::order::Order;
+use market::table::ReadTable;
 use market::table::Table;
 use market::trade;
 use market::trade::Fill;
@@ -196,15 +197,16 @@ fn refused(e: UistV1, number: u32) -> Ticked
 impl UistV1 {
     // One way through, refused or not: a tick that draws a number trades and books none. A return
     // before the work would cost copies of the whole book.
-    pub fn tick(self, quotes: Table) -> Ticked
-        ensures { λ r. ⌜ r ≡ tickOf self quotes ⌝ }
+    pub fn tick(self, quotes: ReadTable) -> Ticked
+        ensures { λ r. ⌜ r ≡ tickOf self (quotes .table) ⌝ }
     {
+        let table = quotes.table();
         let c = self.counts;
-        let number = tick_fault(c, quotes.fault);
+        let number = tick_fault(c, table.fault);
         let resting = count_unless(number, c.resting);
         let waits = count_unless(number, c.waits);
         let book = self.book;
-        let x = execute_orders(book, resting, quotes);
+        let x = execute_orders(book, resting, table);
         let stay = x.book;
         let trades = x.trades;
         let b = book_waiting(
@@ -232,8 +234,8 @@ impl UistV1 {
     }
 
     // A tick for a log of this length.
-    pub fn tick_for(self, quotes: Table, log_length: usize) -> Ticked
-        ensures { λ r. ⌜ r ≡ tickForOf self quotes «log_length» ⌝ }
+    pub fn tick_for(self, quotes: ReadTable, log_length: usize) -> Ticked
+        ensures { λ r. ⌜ r ≡ tickForOf self (quotes .table) «log_length» ⌝ }
     {
         let room = self.counts.room;
         if log_length as u64 != room {

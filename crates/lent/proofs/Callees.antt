@@ -11,10 +11,10 @@ use Rattle.lent.proofs.tables.blank_quotes.Kinds as blank-quotes-Kinds
 use Rattle.lent.proofs.tables.blank_quotes.Reads as blank-quotes-Reads
 use Rattle.lent.proofs.tables.blank_quotes.Symbol as blank-quotes-Symbol
 use Rattle.lent.proofs.tables.blank_quotes.Met as blank-quotes-Met
-use Rattle.market.proofs.table.Table.of.Kinds as table-of-Kinds
-use Rattle.market.proofs.table.Table.of.Reads as table-of-Reads
-use Rattle.market.proofs.table.Table.of.Symbol as table-of-Symbol
-use Rattle.market.proofs.table.Table.of.Met as table-of-Met
+use Rattle.market.proofs.table.ReadTable.of.Kinds as table-of-Kinds
+use Rattle.market.proofs.table.ReadTable.of.Reads as table-of-Reads
+use Rattle.market.proofs.table.ReadTable.of.Symbol as table-of-Symbol
+use Rattle.market.proofs.table.ReadTable.of.Met as table-of-Met
 use Rattle.exchange.proofs.state.UistV1.new.Kinds as new-Kinds
 use Rattle.exchange.proofs.state.UistV1.new.Reads as new-Reads
 use Rattle.exchange.proofs.state.UistV1.new.Symbol as new-Symbol
@@ -53,10 +53,10 @@ pub knows-blank-quotes : (w : World) (γ : Env) → γ "lent::tables::blank_quot
 knows-blank-quotes w γ e = blank-quotes-Reads.known w γ "lent::tables::blank_quotes" blank-quotes-Symbol.routine e (blank-quotes-Met.met (w .𝓤) (w .H) (w .𝓜) (w .𝓖) (w .𝓡))
 
 abbrev pub table-of : Callee
-table-of = record { n = 0; ps = table-of-Kinds.ps; r = table-of-Kinds.r; Pre = table-of-Reads.Asked; Post = table-of-Reads.Learnt; key = "market::table::Table::of" }
+table-of = record { n = 0; ps = table-of-Kinds.ps; r = table-of-Kinds.r; Pre = table-of-Reads.Asked; Post = table-of-Reads.Learnt; key = "market::table::ReadTable::of" }
 
-pub knows-table-of : (w : World) (γ : Env) → γ "market::table::Table::of" ≡ table-of-Symbol.routine → Knows table-of (under w γ)
-knows-table-of w γ e = table-of-Reads.known w γ "market::table::Table::of" table-of-Symbol.routine e (table-of-Met.met (w .𝓤) (w .H) (w .𝓜) (w .𝓖) (w .𝓡))
+pub knows-table-of : (w : World) (γ : Env) → γ "market::table::ReadTable::of" ≡ table-of-Symbol.routine → Knows table-of (under w γ)
+knows-table-of w γ e = table-of-Reads.known w γ "market::table::ReadTable::of" table-of-Symbol.routine e (table-of-Met.met (w .𝓤) (w .H) (w .𝓜) (w .𝓖) (w .𝓡))
 
 abbrev pub new : Callee
 new = record { n = 0; ps = new-Kinds.ps; r = new-Kinds.r; Pre = new-Reads.Asked; Post = new-Reads.Learnt; key = "exchange::state::UistV1::new" }

@@ -1,7 +1,7 @@
 -- A check by value on tables read off lent rows is the one that the crate broker's specs/Lent.antt states, and its trades fit the log. Assumes nothing.
 use Prim.Native.Nat.{ℕ, zero, suc, _+_, _≤_}
 use mathlib.Core.Bool.{Bool, true, false, not, _||_, cond}
-use mathlib.Core.Path.{_≡_, refl, sym, _∙_, ap}
+use mathlib.Core.Path.{_≡_, refl, sym, _∙_, ap, subst}
 use mathlib.Core.List.{List, _∷_, _++_}
 use native.Mathlib.Omega.{arith}
 use lib.Dec.{eqb}
@@ -19,7 +19,9 @@ use Rattle.market.proofs.Tables.{table-fault}
 use Rattle.exchange.specs.State.{brokenOf}
 use Rattle.exchange.specs.Tick.{noTrades}
 use Rattle.exchange.proofs.Executing.{few-executed}
-use Rattle.broker.specs.Check.{checkNumber, checkedBy, Checks}
+use Rattle.broker.specs.State.{moneyOf}
+use Rattle.broker.specs.Liquidate.{heldCount}
+use Rattle.broker.specs.Check.{checkNumber, bookedBy, checkedBy, Checks}
 use Rattle.broker.specs.Lent.{logTest, tradesIn, logWith, checkFor, checkBroker, checkTraded, checkLog, heldAfter}
 use Rattle.broker.specs.declared.state.UistBroker.{UistBroker}
 use Rattle.broker.specs.declared.check.Checked.{Checked}
@@ -92,7 +94,7 @@ module _ (b : UistBroker) (t f : List Quote) (log : List Trade) where
           (record {
             broker = checks .broker ∙ ap (λ (k : ℕ). unlessDrawn k (checkedBy b (tableOf t) (tableOf f)) b) number-is;
             traded = checks .count ∙ ap (λ (k : ℕ). unlessDrawn k (length (tradesIn b t)) 0) number-is;
-            queued = checks .queued;
+            queued = subst (λ (k : ℕ). x .queued ≤ unlessDrawn k (heldCount (moneyOf (bookedBy b (tableOf t) (tableOf f) .portfolio))) 0) number-is (checks .queued);
             number = number-is;
             log-is = is-after
                 ∙ stored-by log noTrades (tradesIn b t) trades (b .exchange .counts .logged) first n (x .number)

@@ -8,7 +8,7 @@ use Rattle.lent.proofs.Rows.{quote, table, trade}
 use Rattle.lent.proofs.UistRows.{basis, weight, weights}
 
 abbrev pub read-table : Contract
-read-table = record { n = 1; ps = pShrS (R quote) 0 tt ∷ []; r = rV table; requires = false; Pre = λ κs a. Unit {0}; Post = λ κs a z e. z ≡ tableOf (a .0 .now) }
+read-table = record { n = 1; ps = pShrS (R quote) 0 tt ∷ []; r = rV table; requires = false; Pre = λ κs a. Unit {0}; Post = λ κs a z e. z .table ≡ tableOf (a .0 .now) }
 
 abbrev pub read-weights : Contract
 read-weights = record { n = 1; ps = pShrS (R weight) 0 tt ∷ []; r = rV weights; requires = false; Pre = λ κs a. Unit {0}; Post = λ κs a z e. ReadsWeights (a .0 .now) z }

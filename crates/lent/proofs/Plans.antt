@@ -11,7 +11,7 @@ use lib.ListN.{length, take, drop, length-append, length-take}
 use lib.Seq.{paste, paste-zero, take-all}
 use borrow.Author.Tests.{ltb-false}
 use Rattle.lists.specs.Lists.{over, given}
-use Rattle.market.specs.Numbers.{drawn, unlessDrawn}
+use Rattle.market.specs.Numbers.{Test, drawn, unlessDrawn}
 use Rattle.market.specs.Weights.{weightRows}
 use Rattle.market.specs.Orders.{isSell}
 use Rattle.market.specs.declared.order.Order.{Order}
@@ -25,13 +25,13 @@ use Rattle.rules.specs.Money.{Money}
 use Rattle.rules.specs.Values.{liquidationValue}
 use Rattle.rules.specs.Weights.{orderFor, sharesFor, difference, wanted, planOf}
 use Rattle.broker.specs.State.{moneyOf}
-use Rattle.broker.specs.Send.{listed}
-use Rattle.broker.specs.Weigh.{weightsOf, weighed, planIn}
+use Rattle.broker.specs.Weigh.{weightsOf, weighed}
+use Rattle.broker.specs.Walk.{lenderTests, walkFault, planBy, Walks}
 use Rattle.broker.specs.declared.state.UistBroker.{UistBroker}
 use Rattle.broker.specs.declared.weigh.Weights.{Weights}
-use Rattle.broker.specs.declared.weigh.Plan.{Plan}
+use Rattle.broker.specs.declared.walk.Walked.{Walked}
 use Rattle.broker.proofs.Weighing.{weights-fault, weights-all, weights-most}
-use Rattle.lent.specs.Walks.{lenderTests, walkFor, planFor, walkNumber, walkCount, walkOrders, ReadsWeights}
+use Rattle.lent.specs.Walks.{walkFor, planFor, walkNumber, walkCount, walkOrders, ReadsWeights}
 use Rattle.lent.specs.Answers.{AnswersWalk}
 use Rattle.lent.specs.declared.uist.WalkAnswer.{WalkAnswer}
 use Rattle.lent.proofs.Reading.{read-rows}
@@ -119,69 +119,65 @@ planned-few m l = by-plan (planOf m l) refl
 
 -- ---- the walk alone
 
-take-taken : {A : Type 0} (c : ℕ) (l : List A) → take (length (take c l)) l ≡ take c l
-take-taken zero l = refl
-take-taken (suc c) [] = refl
-take-taken {A} (suc c) (x ∷ l) = ap (λ (k : List A). x ∷ k) (take-taken c l)
+-- a plan's orders, stored from the first place on
+stored : (o rows : List Order) (k n : ℕ) (p : Option (List Order)) → n ≡ unlessDrawn k (given p 0 length) 0 → take n rows ≡ unlessDrawn k (given p [] (λ l. l)) [] →
+    paste o 0 rows n ≡ unlessDrawn k (given p o (λ l. over l o)) o
+stored o rows zero n none e t = ap (λ (j : ℕ). paste o 0 rows j) e ∙ paste-zero o 0 rows
+stored o rows zero n (some l) e t = ap (λ (m : List Order). m ++ drop (0 + n) o) t ∙ ap (λ (j : ℕ). l ++ drop j o) (zero-add n ∙ e)
+stored o rows (suc k) n p e t = ap (λ (j : ℕ). paste o 0 rows j) e ∙ paste-zero o 0 rows
 
--- the orders of a plan, stored from the first place on
-plan-stored : (p : Plan) (o : List Order) (z : Bool) → paste o 0 (p .list .orders) (given (cond z (some (listed (p .list))) none) 0 length) ≡ given (cond z (some (listed (p .list))) none) o (λ l. over l o)
-plan-stored p o true =
-    let l = listed (p .list) in
-    ap (λ (k : List Order). k ++ drop (0 + length l) o) (take-taken (p .list .count) (p .list .orders)) ∙ ap (λ (k : ℕ). l ++ drop k o) (zero-add (length l))
-plan-stored p o false = sym (paste-zero o 0 (p .list .orders))
+none-by : (k j : ℕ) → unlessDrawn k j k ≡ 0 → (k ≡ 0) × (j ≡ 0)
+none-by zero j e = (refl, e)
+none-by (suc k) j e = absurd (omega arith)
 
-module _ (b : UistBroker) (w : List Weight) (o : List Order) (r : Weights) (lent later fault : ℕ) (plan : Plan) (n : ℕ)
-    (is-read : ReadsWeights w r) (is-lent : lent ≡ drawn (lenderTests b (length w) (length o))) (is-later : later ≡ r .fault)
-    (is-fault : fault ≡ unlessDrawn lent later lent) (is-plan : planIn plan ≡ planOf (moneyOf (b .portfolio)) (weighed r))
-    (is-n : n ≡ unlessDrawn fault (given (planIn plan) 0 length) 0) where
+module _ (b : UistBroker) (w : List Weight) (o : List Order) (r : Weights) (x : Walked) (is-read : ReadsWeights w r) (is-walk : Walks b r (length w) (length o) x) where
+  abbrev tests : List Test
+  tests = lenderTests (b .exchange .counts) (length w) (length o)
+
+  abbrev fault : ℕ
+  fault = walkFault (b .exchange .counts) (length w) (length o) (r .fault)
+
   fault-for : fault ≡ walkFor b w o
-  unfolding walkFor
+  unfolding walkFault walkFor
   fault-for =
-      is-fault ∙ ap (λ (k : ℕ). unlessDrawn lent k lent) (is-later ∙ is-read .fault)
-      ∙ past-first (lenderTests b (length w) (length o)) (weightRows 0 w) (tt, (tt, tt)) lent is-lent
+      ap (λ (k : ℕ). unlessDrawn (drawn tests) k (drawn tests)) (is-read .fault)
+      ∙ past-first tests (weightRows 0 w) (tt, (tt, tt)) (drawn tests) refl
 
-  none-by : (k j : ℕ) → unlessDrawn k j k ≡ 0 → (k ≡ 0) × (j ≡ 0)
-  none-by zero j e = (refl, e)
-  none-by (suc k) j e = absurd (omega arith)
+  none-lent : fault ≡ 0 → (drawn tests ≡ 0) × (r .fault ≡ 0)
+  unfolding walkFault
+  none-lent z = none-by (drawn tests) (r .fault) z
 
-  none-lent : fault ≡ 0 → (lent ≡ 0) × (r .fault ≡ 0)
-  none-lent z = let p = none-by lent later (sym is-fault ∙ z) in (p .0, sym is-later ∙ p .1)
+  plan-is : fault ≡ 0 → planBy b r ≡ planFor b w
+  plan-is z = ap (planOf (moneyOf (b .portfolio))) (is-read .rows (none-lent z .1))
 
-  plan-is : fault ≡ 0 → planIn plan ≡ planFor b w
-  plan-is z = is-plan ∙ ap (planOf (moneyOf (b .portfolio))) (is-read .rows (none-lent z .1))
+  room-is : drawn tests ≡ 0 → length w ≤ length o
+  room-is z = ltb-false (length o) (length w) (none-drawn _ 14 _ (none-drawn (brokenOf (b .exchange .counts)) 15 _ z .1) .0)
 
-  room-is : lent ≡ 0 → length w ≤ length o
-  room-is z =
-      let p = none-drawn (brokenOf (b .exchange .counts)) 15 _ (sym is-lent ∙ z) in
-      ltb-false (length o) (length w) (none-drawn _ 14 _ (p .1) .0)
-
-  count-by : (k : ℕ) → fault ≡ k → n ≡ unlessDrawn k (given (planIn plan) 0 length) 0 → (n ≤ 256) × (0 + n ≤ length o)
-  count-by zero z e =
+  count-by : (k n : ℕ) → fault ≡ k → n ≡ unlessDrawn k (given (planBy b r) 0 length) 0 → (n ≤ 256) × (0 + n ≤ length o)
+  count-by zero n z e =
       let few = planned-few (moneyOf (b .portfolio)) w in
       let same = ap (λ (p : Option (List Order)). given p 0 length) (plan-is z) in
       (omega (arith, e, few, same, weighed-few w r is-read (none-lent z .1)), omega (arith, e, few, same, room-is (none-lent z .0)))
-  count-by (suc k) z e = (omega (arith, e), omega (arith, e))
+  count-by (suc k) n z e = (omega (arith, e), omega (arith, e))
 
-  pub walk-fits : (n ≤ 256) × (0 + n ≤ length o)
-  walk-fits = count-by fault refl is-n
+  -- the program's plan counts only where no number is drawn
+  same-by : {A : Type 0} (d : A) (g : Option (List Order) → A) → unlessDrawn fault (g (planBy b r)) d ≡ unlessDrawn (walkFor b w o) (g (planFor b w)) d
+  same-by d g =
+      unless-same fault (g (planBy b r)) (g (planFor b w)) d (λ z. ap g (plan-is z))
+      ∙ ap (λ (k : ℕ). unlessDrawn k (g (planFor b w)) d) fault-for
 
-  stored-by : (k : ℕ) → n ≡ unlessDrawn k (given (planIn plan) 0 length) 0 → paste o 0 (plan .list .orders) n ≡ unlessDrawn k (given (planIn plan) o (λ l. over l o)) o
-  stored-by zero e = ap (λ (j : ℕ). paste o 0 (plan .list .orders) j) e ∙ plan-stored plan o (plan .found)
-  stored-by (suc k) e = ap (λ (j : ℕ). paste o 0 (plan .list .orders) j) e ∙ sym (paste-zero o 0 (plan .list .orders))
+  module _ (rows : List Order) (n : ℕ) (is-rows : rows ≡ x .orders) (is-n : n ≡ x .count) where
+    pub walk-fits : (n ≤ 256) × (0 + n ≤ length o)
+    walk-fits = count-by fault n refl (is-n ∙ is-walk .count)
 
-  pub walk-answers : (rows : List Order) (a : WalkAnswer) (after : List Order) → rows ≡ plan .list .orders →
-      a ≡ record { count = n; number = unlessDrawn fault (given (planIn plan) 13 (λ l. 0)) fault } → after ≡ paste o 0 rows n → AnswersWalk b w o a after
-  unfolding walkNumber walkCount walkOrders
-  walk-answers rows a after is-rows is-a is-after =
-      rw is-a
-      (record {
-        count = is-n
-            ∙ unless-same fault (given (planIn plan) 0 length) (given (planFor b w) 0 length) 0 (λ z. ap (λ (p : Option (List Order)). given p 0 length) (plan-is z))
-            ∙ ap (λ (k : ℕ). unlessDrawn k (given (planFor b w) 0 length) 0) fault-for;
-        number = unless-same fault (given (planIn plan) 13 (λ l. 0)) (given (planFor b w) 13 (λ l. 0)) fault (λ z. ap (λ (p : Option (List Order)). given p 13 (λ l. 0)) (plan-is z))
-            ∙ ap (λ (k : ℕ). unlessDrawn k (given (planFor b w) 13 (λ l. 0)) k) fault-for;
-        orders = is-after ∙ ap (λ (k : List Order). paste o 0 k n) is-rows ∙ stored-by fault is-n
-            ∙ unless-same fault (given (planIn plan) o (λ l. over l o)) (given (planFor b w) o (λ l. over l o)) o (λ z. ap (λ (p : Option (List Order)). given p o (λ l. over l o)) (plan-is z))
-            ∙ ap (λ (k : ℕ). unlessDrawn k (given (planFor b w) o (λ l. over l o)) o) fault-for;
-      })
+    pub walk-answers : (a : WalkAnswer) (after : List Order) → a ≡ record { count = x .count; number = x .number } → after ≡ paste o 0 rows n → AnswersWalk b w o a after
+    unfolding walkNumber walkCount walkOrders
+    walk-answers a after is-a is-after =
+        rw is-a
+        (record {
+          count = is-walk .count ∙ same-by 0 (λ p. given p 0 length);
+          number = is-walk .number ∙ same-by fault (λ p. given p 13 (λ l. 0)) ∙ ap (λ (k : ℕ). unlessDrawn (walkFor b w o) (given (planFor b w) 13 (λ l. 0)) k) fault-for;
+          orders = is-after ∙ ap (λ (k : List Order). paste o 0 k n) is-rows
+              ∙ stored o (x .orders) fault n (planBy b r) (is-n ∙ is-walk .count) (ap (λ (j : ℕ). take j (x .orders)) is-n ∙ is-walk .orders)
+              ∙ same-by o (λ p. given p o (λ l. over l o));
+        })

@@ -3,8 +3,8 @@ use Rattle.market.specs.Quotes.{blankQuote, emptyTable}
 use Rattle.market.specs.Trades.{blankTrade}
 use Rattle.market.proofs.quote.Quote as Q
 use Rattle.market.proofs.quote.Quote.Laws as Q′
-use Rattle.market.proofs.table.Table as Ta
-use Rattle.market.proofs.table.Table.Laws as Ta′
+use Rattle.market.proofs.table.ReadTable as Ta
+use Rattle.market.proofs.table.ReadTable.Laws as Ta′
 use Rattle.market.proofs.trade.Trade as T
 use Rattle.market.proofs.trade.Trade.Laws as T′
 use Rattle.exchange.specs.State.{fresh}
@@ -21,7 +21,7 @@ abbrev pub quote : Kin
 quote = struct Q.the-type Q′.the-laws Q′.the-copy Q′.the-plain blankQuote tt
 
 abbrev pub table : Kin
-table = struct Ta.the-type Ta′.the-laws Ta′.the-copy Ta′.the-plain emptyTable tt
+table = struct Ta.the-type Ta′.the-laws Ta′.the-copy Ta′.the-plain (record { table = emptyTable }) tt
 
 abbrev pub trade : Kin
 trade = struct T.the-type T′.the-laws T′.the-copy T′.the-plain blankTrade tt

@@ -20,7 +20,7 @@ use Rattle.broker.specs.declared.state.UistBroker.{UistBroker}
 use Rattle.market.specs.declared.order.OrderEvent.{OrderEvent}
 use Rattle.broker.specs.declared.send.Sent.{Sent}
 use Rattle.broker.proofs.Sending.{sent-sound}
-use Rattle.lent.specs.Walks.{lenderTests}
+use Rattle.broker.specs.Walk.{lenderTests}
 use Rattle.lent.specs.Answers.{AnswersSend}
 use Rattle.lent.specs.declared.uist.SendAnswer.{SendAnswer}
 
@@ -103,7 +103,7 @@ module _ (start : UistBroker) (l : List Order) (e : List OrderEvent) (n : ℕ) w
 
 -- ---- the call
 
-module _ (b : UistBroker) (l : List Order) (e : List OrderEvent) (m n : ℕ) (is-m : m ≡ drawn (lenderTests b (length l) (length e))) (is-n : n ≡ unlessDrawn m (length l) 0) where
+module _ (b : UistBroker) (l : List Order) (e : List OrderEvent) (m n : ℕ) (is-m : m ≡ drawn (lenderTests (b .exchange .counts) (length l) (length e))) (is-n : n ≡ unlessDrawn m (length l) 0) where
   -- where no number is drawn the counts hold together, and there is a place for each event
   lent : m ≡ 0 → Sound (b .exchange .counts) × (length l ≤ length e)
   lent z =

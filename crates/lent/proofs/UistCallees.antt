@@ -35,10 +35,6 @@ use Rattle.lent.proofs.uist.rows_unless.Kinds as rows-unless-Kinds
 use Rattle.lent.proofs.uist.rows_unless.Reads as rows-unless-Reads
 use Rattle.lent.proofs.uist.rows_unless.Symbol as rows-unless-Symbol
 use Rattle.lent.proofs.uist.rows_unless.Met as rows-unless-Met
-use Rattle.lent.proofs.uist.either_fault.Kinds as either-fault-Kinds
-use Rattle.lent.proofs.uist.either_fault.Reads as either-fault-Reads
-use Rattle.lent.proofs.uist.either_fault.Symbol as either-fault-Symbol
-use Rattle.lent.proofs.uist.either_fault.Met as either-fault-Met
 use Rattle.lent.proofs.uist.basis_read.Kinds as basis-read-Kinds
 use Rattle.lent.proofs.uist.basis_read.Reads as basis-read-Reads
 use Rattle.lent.proofs.uist.basis_read.Symbol as basis-read-Symbol
@@ -95,22 +91,18 @@ use Rattle.broker.proofs.weigh.Weights.of.Kinds as weights-of-Kinds
 use Rattle.broker.proofs.weigh.Weights.of.Reads as weights-of-Reads
 use Rattle.broker.proofs.weigh.Weights.of.Symbol as weights-of-Symbol
 use Rattle.broker.proofs.weigh.Weights.of.Met as weights-of-Met
-use Rattle.lent.proofs.uist.plan_for.Kinds as plan-for-Kinds
-use Rattle.lent.proofs.uist.plan_for.Reads as plan-for-Reads
-use Rattle.lent.proofs.uist.plan_for.Symbol as plan-for-Symbol
-use Rattle.lent.proofs.uist.plan_for.Met as plan-for-Met
-use Rattle.lent.proofs.uist.fault_of.Kinds as fault-of-Kinds
-use Rattle.lent.proofs.uist.fault_of.Reads as fault-of-Reads
-use Rattle.lent.proofs.uist.fault_of.Symbol as fault-of-Symbol
-use Rattle.lent.proofs.uist.fault_of.Met as fault-of-Met
-use Rattle.lent.proofs.uist.orders_of.Kinds as orders-of-Kinds
-use Rattle.lent.proofs.uist.orders_of.Reads as orders-of-Reads
-use Rattle.lent.proofs.uist.orders_of.Symbol as orders-of-Symbol
-use Rattle.lent.proofs.uist.orders_of.Met as orders-of-Met
-use Rattle.lent.proofs.uist.orders_written.Kinds as orders-written-Kinds
-use Rattle.lent.proofs.uist.orders_written.Reads as orders-written-Reads
-use Rattle.lent.proofs.uist.orders_written.Symbol as orders-written-Symbol
-use Rattle.lent.proofs.uist.orders_written.Met as orders-written-Met
+use Rattle.broker.proofs.state.UistBroker.diff_against_target_weights.Kinds as weigh-Kinds
+use Rattle.broker.proofs.state.UistBroker.diff_against_target_weights.Reads as weigh-Reads
+use Rattle.broker.proofs.state.UistBroker.diff_against_target_weights.Symbol as weigh-Symbol
+use Rattle.broker.proofs.state.UistBroker.diff_against_target_weights.Met as weigh-Met
+use Rattle.lent.proofs.uist.walked_orders.Kinds as walked-orders-Kinds
+use Rattle.lent.proofs.uist.walked_orders.Reads as walked-orders-Reads
+use Rattle.lent.proofs.uist.walked_orders.Symbol as walked-orders-Symbol
+use Rattle.lent.proofs.uist.walked_orders.Met as walked-orders-Met
+use Rattle.lent.proofs.uist.walked_count.Kinds as walked-count-Kinds
+use Rattle.lent.proofs.uist.walked_count.Reads as walked-count-Reads
+use Rattle.lent.proofs.uist.walked_count.Symbol as walked-count-Symbol
+use Rattle.lent.proofs.uist.walked_count.Met as walked-count-Met
 use Rattle.lent.proofs.uist.walk_answer.Kinds as walk-answer-Kinds
 use Rattle.lent.proofs.uist.walk_answer.Reads as walk-answer-Reads
 use Rattle.lent.proofs.uist.walk_answer.Symbol as walk-answer-Symbol
@@ -196,12 +188,6 @@ rows-unless = record { n = 0; ps = rows-unless-Kinds.ps; r = rows-unless-Kinds.r
 pub knows-rows-unless : (w : World) (γ : Env) → γ "lent::uist::rows_unless" ≡ rows-unless-Symbol.routine → Knows rows-unless (under w γ)
 knows-rows-unless w γ e = rows-unless-Reads.known w γ "lent::uist::rows_unless" rows-unless-Symbol.routine e (rows-unless-Met.met (w .𝓤) (w .H) (w .𝓜) (w .𝓖) (w .𝓡))
 
-abbrev pub either-fault : Callee
-either-fault = record { n = 0; ps = either-fault-Kinds.ps; r = either-fault-Kinds.r; Pre = either-fault-Reads.Asked; Post = either-fault-Reads.Learnt; key = "lent::uist::either_fault" }
-
-pub knows-either-fault : (w : World) (γ : Env) → γ "lent::uist::either_fault" ≡ either-fault-Symbol.routine → Knows either-fault (under w γ)
-knows-either-fault w γ e = either-fault-Reads.known w γ "lent::uist::either_fault" either-fault-Symbol.routine e (either-fault-Met.met (w .𝓤) (w .H) (w .𝓜) (w .𝓖) (w .𝓡))
-
 abbrev pub basis-read : Callee
 basis-read = record { n = 0; ps = basis-read-Kinds.ps; r = basis-read-Kinds.r; Pre = basis-read-Reads.Asked; Post = basis-read-Reads.Learnt; key = "lent::uist::basis_read" }
 
@@ -286,29 +272,23 @@ weights-of = record { n = 0; ps = weights-of-Kinds.ps; r = weights-of-Kinds.r; P
 pub knows-weights-of : (w : World) (γ : Env) → γ "broker::weigh::Weights::of" ≡ weights-of-Symbol.routine → Knows weights-of (under w γ)
 knows-weights-of w γ e = weights-of-Reads.known w γ "broker::weigh::Weights::of" weights-of-Symbol.routine e (weights-of-Met.met (w .𝓤) (w .H) (w .𝓜) (w .𝓖) (w .𝓡))
 
-abbrev pub plan-for : Callee
-plan-for = record { n = 0; ps = plan-for-Kinds.ps; r = plan-for-Kinds.r; Pre = plan-for-Reads.Asked; Post = plan-for-Reads.Learnt; key = "lent::uist::plan_for" }
+abbrev pub weigh : Callee
+weigh = record { n = 0; ps = weigh-Kinds.ps; r = weigh-Kinds.r; Pre = weigh-Reads.Asked; Post = weigh-Reads.Learnt; key = "broker::state::UistBroker::diff_against_target_weights" }
 
-pub knows-plan-for : (w : World) (γ : Env) → γ "lent::uist::plan_for" ≡ plan-for-Symbol.routine → Knows plan-for (under w γ)
-knows-plan-for w γ e = plan-for-Reads.known w γ "lent::uist::plan_for" plan-for-Symbol.routine e (plan-for-Met.met (w .𝓤) (w .H) (w .𝓜) (w .𝓖) (w .𝓡))
+pub knows-weigh : (w : World) (γ : Env) → γ "broker::state::UistBroker::diff_against_target_weights" ≡ weigh-Symbol.routine → Knows weigh (under w γ)
+knows-weigh w γ e = weigh-Reads.known w γ "broker::state::UistBroker::diff_against_target_weights" weigh-Symbol.routine e (weigh-Met.met (w .𝓤) (w .H) (w .𝓜) (w .𝓖) (w .𝓡))
 
-abbrev pub fault-of : Callee
-fault-of = record { n = 0; ps = fault-of-Kinds.ps; r = fault-of-Kinds.r; Pre = fault-of-Reads.Asked; Post = fault-of-Reads.Learnt; key = "lent::uist::fault_of" }
+abbrev pub walked-orders : Callee
+walked-orders = record { n = 0; ps = walked-orders-Kinds.ps; r = walked-orders-Kinds.r; Pre = walked-orders-Reads.Asked; Post = walked-orders-Reads.Learnt; key = "lent::uist::walked_orders" }
 
-pub knows-fault-of : (w : World) (γ : Env) → γ "lent::uist::fault_of" ≡ fault-of-Symbol.routine → Knows fault-of (under w γ)
-knows-fault-of w γ e = fault-of-Reads.known w γ "lent::uist::fault_of" fault-of-Symbol.routine e (fault-of-Met.met (w .𝓤) (w .H) (w .𝓜) (w .𝓖) (w .𝓡))
+pub knows-walked-orders : (w : World) (γ : Env) → γ "lent::uist::walked_orders" ≡ walked-orders-Symbol.routine → Knows walked-orders (under w γ)
+knows-walked-orders w γ e = walked-orders-Reads.known w γ "lent::uist::walked_orders" walked-orders-Symbol.routine e (walked-orders-Met.met (w .𝓤) (w .H) (w .𝓜) (w .𝓖) (w .𝓡))
 
-abbrev pub orders-of : Callee
-orders-of = record { n = 0; ps = orders-of-Kinds.ps; r = orders-of-Kinds.r; Pre = orders-of-Reads.Asked; Post = orders-of-Reads.Learnt; key = "lent::uist::orders_of" }
+abbrev pub walked-count : Callee
+walked-count = record { n = 0; ps = walked-count-Kinds.ps; r = walked-count-Kinds.r; Pre = walked-count-Reads.Asked; Post = walked-count-Reads.Learnt; key = "lent::uist::walked_count" }
 
-pub knows-orders-of : (w : World) (γ : Env) → γ "lent::uist::orders_of" ≡ orders-of-Symbol.routine → Knows orders-of (under w γ)
-knows-orders-of w γ e = orders-of-Reads.known w γ "lent::uist::orders_of" orders-of-Symbol.routine e (orders-of-Met.met (w .𝓤) (w .H) (w .𝓜) (w .𝓖) (w .𝓡))
-
-abbrev pub orders-written : Callee
-orders-written = record { n = 0; ps = orders-written-Kinds.ps; r = orders-written-Kinds.r; Pre = orders-written-Reads.Asked; Post = orders-written-Reads.Learnt; key = "lent::uist::orders_written" }
-
-pub knows-orders-written : (w : World) (γ : Env) → γ "lent::uist::orders_written" ≡ orders-written-Symbol.routine → Knows orders-written (under w γ)
-knows-orders-written w γ e = orders-written-Reads.known w γ "lent::uist::orders_written" orders-written-Symbol.routine e (orders-written-Met.met (w .𝓤) (w .H) (w .𝓜) (w .𝓖) (w .𝓡))
+pub knows-walked-count : (w : World) (γ : Env) → γ "lent::uist::walked_count" ≡ walked-count-Symbol.routine → Knows walked-count (under w γ)
+knows-walked-count w γ e = walked-count-Reads.known w γ "lent::uist::walked_count" walked-count-Symbol.routine e (walked-count-Met.met (w .𝓤) (w .H) (w .𝓜) (w .𝓖) (w .𝓡))
 
 abbrev pub walk-answer : Callee
 walk-answer = record { n = 0; ps = walk-answer-Kinds.ps; r = walk-answer-Kinds.r; Pre = walk-answer-Reads.Asked; Post = walk-answer-Reads.Learnt; key = "lent::uist::walk_answer" }

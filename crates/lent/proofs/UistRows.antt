@@ -1,5 +1,4 @@
 -- The row types of the broker's calls: the declared structs that are lent, passed and answered. Assumes nothing.
-use mathlib.Core.Bool.{false}
 use mathlib.Core.List.{[]}
 use Rattle.market.specs.Orders.{zero64, eventOf}
 use Rattle.costs.specs.Kept.{noCosts}
@@ -36,8 +35,8 @@ use Rattle.market.proofs.weight.Weight as We
 use Rattle.market.proofs.weight.Weight.Laws as We′
 use Rattle.broker.proofs.weigh.Weights as Ws
 use Rattle.broker.proofs.weigh.Weights.Laws as Ws′
-use Rattle.broker.proofs.weigh.Plan as Pl
-use Rattle.broker.proofs.weigh.Plan.Laws as Pl′
+use Rattle.broker.proofs.walk.Walked as Wa
+use Rattle.broker.proofs.walk.Walked.Laws as Wa′
 use Rattle.lent.proofs.uist.WalkAnswer as WaA
 use Rattle.lent.proofs.uist.WalkAnswer.Laws as WaA′
 use Rattle.broker.proofs.update.Lengths as Le
@@ -90,8 +89,8 @@ weight = struct We.the-type We′.the-laws We′.the-copy We′.the-plain (recor
 abbrev pub weights : Kin
 weights = struct Ws.the-type Ws′.the-laws Ws′.the-copy Ws′.the-plain (record { rows = []; count = 0; fault = 0 }) tt
 
-abbrev pub plan : Kin
-plan = struct Pl.the-type Pl′.the-laws Pl′.the-copy Pl′.the-plain (record { list = noOrders; found = false }) tt
+abbrev pub walked : Kin
+walked = struct Wa.the-type Wa′.the-laws Wa′.the-copy Wa′.the-plain (record { orders = noOrders .orders; count = 0; number = 0 }) tt
 
 abbrev pub walk-answer : Kin
 walk-answer = struct WaA.the-type WaA′.the-laws WaA′.the-copy WaA′.the-plain (record { count = 0; number = 0 }) tt

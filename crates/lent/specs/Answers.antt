@@ -19,7 +19,7 @@ use Rattle.lent.specs.declared.uist.UpdateAnswer.{UpdateAnswer}
 pub record AnswersCheck (b : UistBroker) (t f : List Quote) (log : List Trade) (r : CheckAnswer) (after : List Trade) : Type 0 where
   pub broker : r .broker ≡ checkBroker b t f log
   pub traded : r .traded ≡ checkTraded b t f log
-  pub queued : r .queued ≤ heldAfter b t f
+  pub queued : r .queued ≤ heldAfter b t f log
   pub number : r .number ≡ checkFor b t f log
   pub log-is : after ≡ checkLog b t f log
 

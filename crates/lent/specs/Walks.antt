@@ -1,29 +1,24 @@
 -- The walk alone, which writes its orders to a lent list and answers how many: document 01, section 5. Definitions only.
 use Prim.Native.Nat.{ℕ}
 use mathlib.Core.Path.{_≡_}
-use mathlib.Core.List.{List, [], _∷_, _++_}
+use mathlib.Core.List.{List, _++_}
 use mathlib.Core.Option.{Option}
-use lib.Dec.{ltb}
 use lib.ListN.{length}
 use Rattle.lists.specs.Lists.{over, given}
-use Rattle.market.specs.Numbers.{Test, _draws_, drawn, unlessDrawn}
+use Rattle.market.specs.Numbers.{drawn, unlessDrawn}
 use Rattle.market.specs.Weights.{weightRows}
 use Rattle.market.specs.declared.order.Order.{Order}
 use Rattle.market.specs.declared.weight.Weight.{Weight}
-use Rattle.exchange.specs.State.{brokenOf}
 use Rattle.rules.specs.Weights.{planOf}
 use Rattle.broker.specs.State.{moneyOf}
 use Rattle.broker.specs.Weigh.{weighed}
+use Rattle.broker.specs.Walk.{lenderTests}
 use Rattle.broker.specs.declared.state.UistBroker.{UistBroker}
 use Rattle.broker.specs.declared.weigh.Weights.{Weights}
 
--- 16 for the broker's counts; 15 where a list of `room` entries is lent for `rows` rows
-abbrev pub lenderTests : UistBroker → ℕ → ℕ → List Test
-lenderTests b rows room = (brokenOf (b .exchange .counts) draws 16) ∷ (ltb room rows draws 15) ∷ []
-
 -- 16, 15, then the rows of weights; then 13 where there is no value to weigh
 unfoldable pub walkFor : UistBroker → List Weight → List Order → ℕ
-walkFor b w o = drawn (lenderTests b (length w) (length o) ++ weightRows 0 w)
+walkFor b w o = drawn (lenderTests (b .exchange .counts) (length w) (length o) ++ weightRows 0 w)
 
 abbrev pub planFor : UistBroker → List Weight → Option (List Order)
 planFor b w = planOf (moneyOf (b .portfolio)) w

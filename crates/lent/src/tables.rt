@@ -5,7 +5,7 @@ ghost use lib.ListN.{length, replicate};
 ghost use lib.Seq.{paste};
 ghost use Rattle.market.specs.Quotes.{blankQuote, tableOf};
 use market::quote::Quote;
-use market::table::Table;
+use market::table::ReadTable;
 
 pub(crate) fn blank_quotes() -> [Quote; 257]
     ensures { λ r. ⌜ r ≡ replicate 257 blankQuote ⌝ }
@@ -36,10 +36,10 @@ fn load_quotes(rows: &[Quote], n: usize, blank: [Quote; 257]) -> [Quote; 257]
     kept
 }
 
-pub fn read_table(rows: &[Quote]) -> Table
-    ensures { λ r. ⌜ r ≡ tableOf (now (rows .entry)) ⌝ }
+pub fn read_table(rows: &[Quote]) -> ReadTable
+    ensures { λ r. ⌜ r .table ≡ tableOf (now (rows .entry)) ⌝ }
 {
     let n = rows_read(rows.len());
     let kept = load_quotes(rows, n, blank_quotes());
-    Table::of(kept, n)
+    ReadTable::of(kept, n)
 }

@@ -3,17 +3,12 @@
 ghost use mathlib.Core.Path.{_≡_};
 ghost use mathlib.Core.List.{[], _∷_};
 ghost use lib.Dec.{ltb};
-ghost use lib.ListN.{length};
-ghost use Rattle.lists.specs.Lists.{given};
 ghost use Rattle.market.specs.Numbers.{_draws_, drawn, unlessDrawn};
 ghost use Rattle.rules.specs.Basis.{basisOf, costBasis, turnover};
-ghost use Rattle.rules.specs.Weights.{planOf};
-ghost use Rattle.broker.specs.State.{moneyOf};
-ghost use Rattle.broker.specs.Weigh.{weighed, planIn};
+ghost use Rattle.broker.specs.Walk.{lenderTests};
 ghost use Rattle.broker.specs.Read.{ReadsAmount, readFloat};
 ghost use Rattle.broker.specs.Lent.{buildFor};
 ghost use Rattle.lent.specs.Logs.{basisIn, loggedIn, lengthTest, turnoverNumber, basisNumber};
-ghost use Rattle.lent.specs.Walks.{lenderTests};
 ghost use Rattle.lent.specs.Answers.{AnswersCheck, AnswersSend, AnswersWalk, AnswersUpdate};
 use crate::folds::Basis;
 use crate::folds::fold_basis;
@@ -32,8 +27,7 @@ use broker::state::UistBroker;
 use broker::update::Lengths;
 use broker::update::Updated;
 use broker::value::Amount;
-use broker::weigh::Plan;
-use broker::weigh::Weights;
+use broker::walk::Walked;
 use costs::TradeCosts;
 use market::order::Order;
 use market::order::OrderEvent;
@@ -94,7 +88,7 @@ pub(crate) fn basis_fault(broker: UistBroker, log_length: usize, symbol: u32) ->
 
 // 16, then 15 where a list of `room` entries is lent for `rows` rows, or 0.
 pub(crate) fn lender_fault(broker: UistBroker, rows: usize, room: usize) -> u32
-    ensures { λ r. ⌜ r ≡ drawn (lenderTests broker rows room) ⌝ }
+    ensures { λ r. ⌜ r ≡ drawn (lenderTests (broker .exchange .counts) rows room) ⌝ }
 {
     let exchange = broker.exchange;
     let counts = exchange.counts;
@@ -122,13 +116,6 @@ pub(crate) fn rows_unless(n: usize, number: u32) -> usize
     ensures { λ r. ⌜ r ≡ unlessDrawn number n 0 ⌝ }
 {
     if number != 0 { 0 } else { n }
-}
-
-// The first number drawn.
-pub(crate) fn either_fault(number: u32, later: u32) -> u32
-    ensures { λ r. ⌜ r ≡ unlessDrawn number later number ⌝ }
-{
-    if number != 0 { number } else { later }
 }
 
 // None at quantity zero, else value / quantity.
@@ -286,59 +273,24 @@ pub fn send_orders(broker: UistBroker, orders: &[Order], events: &mut [OrderEven
     send_answer(b, number)
 }
 
-pub(crate) fn plan_for(broker: UistBroker, weights: Weights) -> Plan
-    ensures { λ r. ⌜ planIn r ≡ planOf (moneyOf (broker .portfolio)) (weighed weights) ⌝ }
+pub(crate) fn walked_orders(x: Walked) -> [Order; 256]
+    ensures { λ r. ⌜ r ≡ x .orders ⌝ }
 {
-    let portfolio = broker.portfolio;
-    portfolio.diff_against_target_weights(weights)
+    x.orders
 }
 
-pub(crate) fn fault_of(weights: Weights) -> u32
-    ensures { λ r. ⌜ r ≡ weights .fault ⌝ }
+pub(crate) fn walked_count(x: Walked) -> usize
+    ensures { λ r. ⌜ r ≡ x .count ⌝ }
 {
-    weights.fault
+    x.count
 }
 
-pub(crate) fn orders_of(plan: Plan) -> [Order; 256]
-    ensures { λ r. ⌜ r ≡ plan .list .orders ⌝ }
+pub(crate) fn walk_answer(x: Walked) -> WalkAnswer
+    ensures { λ r. ⌜ r ≡ record { count = x .count; number = x .number } ⌝ }
 {
-    let list = plan.list;
-    list.orders
-}
-
-// How many orders are written.
-pub(crate) fn orders_written(plan: Plan, fault: u32) -> usize
-    ensures { λ r. ⌜ r ≡ unlessDrawn fault (given (planIn plan) 0 length) 0 ⌝ }
-{
-    let list = plan.list;
-    if fault != 0 {
-        return 0;
-    }
-    if !plan.found {
-        return 0;
-    }
-    if list.count < 256 { list.count } else { 256 }
-}
-
-// 13 where there is no value to weigh.
-pub(crate) fn walk_answer(plan: Plan, fault: u32, count: usize) -> WalkAnswer
-    ensures { λ r. ⌜ r ≡ record { count = count; number = unlessDrawn fault (given (planIn plan) 13 (λ l. 0)) fault } ⌝ }
-{
-    if fault != 0 {
-        return WalkAnswer {
-            count: count,
-            number: fault,
-        };
-    }
-    if !plan.found {
-        return WalkAnswer {
-            count: count,
-            number: 13,
-        };
-    }
     WalkAnswer {
-        count: count,
-        number: 0,
+        count: x.count,
+        number: x.number,
     }
 }
 
@@ -351,13 +303,11 @@ pub fn diff_against_target_weights(
     ensures { λ r. ⌜ AnswersWalk broker (now (weights .entry)) (now (orders .entry)) r (now (orders .exit)) ⌝ }
 {
     let w = read_weights(weights);
-    let lent = lender_fault(broker, weights.len(), orders.len());
-    let fault = either_fault(lent, fault_of(w));
-    let plan = plan_for(broker, w);
-    let rows = orders_of(plan);
-    let n = orders_written(plan, fault);
+    let x = broker.diff_against_target_weights(w, weights.len(), orders.len());
+    let rows = walked_orders(x);
+    let n = walked_count(x);
     store_orders(orders, 0, rows, n);
-    walk_answer(plan, fault, n)
+    walk_answer(x)
 }
 
 pub(crate) fn lengths_of(log: usize, events: usize, weights: usize) -> Lengths

@@ -1,4 +1,4 @@
--- The loop of `Table::of`: the rows from the i-th on, put into the table so far, make the whole table.
+-- The loop of `ReadTable::of`: the rows from the i-th on, put into the table so far, make the whole table.
 use Prim.Native.Nat.{ℕ, suc, _+_, _<_, _≤_}
 use mathlib.Core.Path.{_≡_, ap, sym, _∙_}
 use mathlib.Core.List.{List, _∷_}

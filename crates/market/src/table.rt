@@ -12,6 +12,12 @@ pub struct Table {
     pub fault: u32,
 }
 
+// A table that was read off rows. Its field is private, so nothing else makes one, and the calls that
+// take one need not test its number again.
+pub struct ReadTable {
+    table: Table,
+}
+
 impl Table {
     pub fn empty() -> Table
         ensures { λ r. ⌜ r ≡ emptyTable ⌝ }
@@ -23,10 +29,36 @@ impl Table {
             fault: 0,
         }
     }
+}
+
+impl ReadTable {
+    // The table of no rows.
+    pub fn empty() -> ReadTable
+        ensures { λ r. ⌜ r .table ≡ emptyTable ⌝ }
+    {
+        ReadTable {
+            table: Table::empty(),
+        }
+    }
+
+    // What was read.
+    pub fn table(self) -> Table
+        ensures { λ r. ⌜ r ≡ self .table ⌝ }
+    {
+        self.table
+    }
+
+    // The number that its rows drew, or 0.
+    pub fn fault(self) -> u32
+        ensures { λ r. ⌜ r ≡ self .table .fault ⌝ }
+    {
+        let table = self.table;
+        table.fault
+    }
 
     // The table of the first `n` rows. At most 256 rows ascend, so the 257th draws a number.
-    pub fn of(rows: [Quote; 257], n: usize) -> Table
-        ensures { λ r. ⌜ r ≡ tableOf (take n rows) ⌝ }
+    pub fn of(rows: [Quote; 257], n: usize) -> ReadTable
+        ensures { λ r. ⌜ r .table ≡ tableOf (take n rows) ⌝ }
     {
         let blank = Quote::blank();
         let mut kept = [blank; 256];
@@ -50,10 +82,12 @@ impl Table {
             least = symbol + 1;
             i = i + 1;
         }
-        Table {
-            present: present,
-            rows: kept,
-            fault: fault,
+        ReadTable {
+            table: Table {
+                present: present,
+                rows: kept,
+                fault: fault,
+            },
         }
     }
 }

@@ -25,7 +25,6 @@ use calls::verb::Verb;
 use costs::TradeCosts;
 use lent::uist;
 use market::order::Order;
-use market::table::Table;
 use market::trade::Trade;
 use text::input;
 use text::input::Input;

@@ -8,7 +8,7 @@ use broker::state::UistBroker;
 use calls::call::Call;
 use calls::verb::Verb;
 use costs::TradeCosts;
-use market::table::Table;
+use market::table::ReadTable;
 use market::trade::Trade;
 use text::input::Input;
 
@@ -42,7 +42,7 @@ pub fn fresh() -> View {
 
 // The broker before the first `new`: no log, no quotes.
 pub fn first_broker() -> UistBroker {
-    let x = UistBroker::build(TradeCosts::none(), Table::empty(), 0);
+    let x = UistBroker::build(TradeCosts::none(), ReadTable::empty(), 0);
     x.broker
 }
 

@@ -4,19 +4,19 @@ use exchange::state::UistV1;
 use exchange::tick::Ticked;
 use market::order::Order;
 use market::quote::Quote;
-use market::table::Table;
+use market::table::ReadTable;
 use market::trade::Trade;
 use market::trade::TradeType;
 
 // A table of one row.
-fn quoted(bid: f64, ask: f64, date: i64) -> Table {
+fn quoted(bid: f64, ask: f64, date: i64) -> ReadTable {
     let q = Quote {
         symbol: 7,
         bid: bid,
         ask: ask,
         date: date,
     };
-    Table::of([q; 257], 1)
+    ReadTable::of([q; 257], 1)
 }
 
 // The whole part of an amount.

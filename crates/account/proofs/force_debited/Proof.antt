@@ -1,6 +1,6 @@
 -- `force_debited`: the function with plain parameters over `debit_force`. Assumes nothing.
 use Rattle.walks.proofs.Walk.{closes, knows, under, world}
-use Rattle.account.specs.Account.{forceOf}
+use Rattle.account.specs.Account.{forceOf, noNumber}
 use Rattle.account.proofs.Callees.{knows-with-cash, knows-answered}
 use Rattle.account.proofs.Mutable as Mutable
 use Rattle.account.proofs.Plain as Plain
@@ -14,8 +14,8 @@ pub force-debited-spec : {M : Type 1} → statement M
 unfolding code.routine
 force-debited-spec 𝓤 H 𝓜 𝓖 𝓡 =
     let w = world 𝓤 H 𝓜 𝓖 𝓡 in
-    closes (Plain.contract forceOf) w code.env name code.function (code.unfolded 𝓤 H 𝓜 𝓡) (Plain.runs forceOf "account::debit_force" (under w code.env) (
+    closes (Plain.contract forceOf noNumber) w code.env name code.function (code.unfolded 𝓤 H 𝓜 𝓡) (Plain.runs forceOf noNumber "account::debit_force" (under w code.env) (
       knows-with-cash w code.env code.calls-account·value·with-cash,
-      knows (Mutable.contract forceOf) w code.env "account::debit_force" debit-force-Symbol.routine code.calls-account·debit-force (debit-force-Met.met 𝓤 H 𝓜 𝓖 𝓡),
+      knows (Mutable.contract forceOf noNumber) w code.env "account::debit_force" debit-force-Symbol.routine code.calls-account·debit-force (debit-force-Met.met 𝓤 H 𝓜 𝓖 𝓡),
       knows-answered w code.env code.calls-account·value·answered,
     ))

@@ -48,13 +48,13 @@ returns : tie.Need-returns
 returns c =
     let d = c .before .before in
     let j = d .before .before .before in
-    settled-by _ _ _ _ _ _ (d .before .enum-told .given .1) (debit _ _ _ (d .force-debited .ensures)) (holding-read (j .before .before)) (pending-read j)
+    settled-by _ _ _ _ _ _ (d .before .enum-told .given .1) (debit _ _ _ (d .force-debited .ensures .0)) (holding-read (j .before .before)) (pending-read j)
 
 returns-2 : tie.Need-returns-2
 returns-2 c =
     let d = c .before .before in
     let j = d .before .before .before in
-    settled-by _ _ _ _ _ _ (d .before .enum-told2 .given .1) (credit _ _ _ (d .credited .ensures)) (holding-read (j .before .before)) (pending-read j)
+    settled-by _ _ _ _ _ _ (d .before .enum-told2 .given .1) (credit _ _ _ (d .credited .ensures .0)) (holding-read (j .before .before)) (pending-read j)
 
 pub settle-one-spec : {M : Type 1} → statement M
 settle-one-spec =

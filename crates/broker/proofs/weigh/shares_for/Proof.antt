@@ -4,14 +4,14 @@ use Rattle.broker.proofs.Weighing.{shares-sold, shares-bought}
 use Rattle.broker.proofs.weigh.shares_for.Statement.{statement}
 use Rattle.broker.proofs.weigh.shares_for.Tie as tie
 
-trade-impact-total-requires : tie.Need-trade-impact-total-requires
-trade-impact-total-requires c κs = search needs
+net-of-costs-requires : tie.Need-net-of-costs-requires
+net-of-costs-requires c κs = search needs
 
 floor-requires : tie.Need-floor-requires
 floor-requires c κs = search needs
 
-trade-impact-total-requires-2 : tie.Need-trade-impact-total-requires-2
-trade-impact-total-requires-2 c κs = search needs
+net-of-costs-requires-2 : tie.Need-net-of-costs-requires-2
+net-of-costs-requires-2 c κs = search needs
 
 floor-requires-2 : tie.Need-floor-requires-2
 floor-requires-2 c κs = search needs
@@ -19,20 +19,20 @@ floor-requires-2 c κs = search needs
 returns : tie.Need-returns
 returns c =
     let net = c .before .before in
-    shares-sold _ _ (net .before .before .args .q) _ _ (net .before .if1 .taken) (net .trade-impact-total .ensures) (c .floor .ensures)
+    shares-sold _ _ (net .before .before .args .q) _ _ (net .before .if1 .taken) (net .net-of-costs .ensures) (c .floor .ensures)
 
 returns-2 : tie.Need-returns-2
 returns-2 c =
     let net = c .before .before in
-    shares-bought _ _ (net .before .before .args .q) _ _ (net .before .if1 .left) (net .trade-impact-total2 .ensures) (c .floor2 .ensures)
+    shares-bought _ _ (net .before .before .args .q) _ _ (net .before .if1 .left) (net .net-of-costs2 .ensures) (c .floor2 .ensures)
 
 pub shares-for-spec : {M : Type 1} → statement M
 shares-for-spec =
     tie.close
     (tie.spec
-    trade-impact-total-requires
+    net-of-costs-requires
     floor-requires
-    trade-impact-total-requires-2
+    net-of-costs-requires-2
     floor-requires-2
     returns
     returns-2)

@@ -54,5 +54,5 @@ read-table-spec 𝓤 H 𝓜 𝓖 𝓡 =
       knows-rows-read w code.env code.calls-lent·tables·rows-read,
       knows-blank-quotes w code.env code.calls-lent·tables·blank-quotes,
       knows (Load.contract quote 257) w code.env "lent::tables::load_quotes" load-quotes-Symbol.routine code.calls-lent·tables·load-quotes (load-quotes-Met.met 𝓤 H 𝓜 𝓖 𝓡),
-      knows-table-of w code.env code.calls-market·table·Table·of,
+      knows-table-of w code.env code.calls-market·table·ReadTable·of,
     ))

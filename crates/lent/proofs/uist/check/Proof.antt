@@ -78,14 +78,14 @@ asked o kn κs qs a good pre bs =
                 λ first. λ lent. (
                   refl,
                   (
-                    λ _. check-fits b t f log (u .1) (v .1) (x .1) (u .5) (v .5) (x .5) (trades .1) (n .1) (first .1) (trades .5) (n .5) (first .5),
+                    λ _. check-fits b t f log (u .1 .table) (v .1 .table) (x .1) (u .5) (v .5) (x .5) (trades .1) (n .1) (first .1) (trades .5) (n .5) (first .5),
                     λ st. (
                       refl,
                       λ long. (
                         λ _. tt,
                         λ r. (
                           (tt, (refl, (refl, (ap (λ k. (a .1 .1 .1 .0 .ptr, (a .1 .1 .1 .0 .name, k))) long, tt)))),
-                          check-answers b t f log (u .1) (v .1) (x .1) (u .5) (v .5) (x .5) (trades .1) (n .1) (first .1) (trades .5) (n .5) (first .5) (r .1) _ (r .5) (st .5),
+                          check-answers b t f log (u .1 .table) (v .1 .table) (x .1) (u .5) (v .5) (x .5) (trades .1) (n .1) (first .1) (trades .5) (n .5) (first .5) (r .1) _ (r .5) (st .5),
                         ),
                       ),
                     ),

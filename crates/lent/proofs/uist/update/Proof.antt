@@ -113,7 +113,7 @@ asked o kn κs qs a good pre bs =
                     λ first. λ lent. (
                       refl,
                       (
-                        λ _. log-fits b t f l e log (u .1) (v .1) (w .1) (x .1) _ (y .1) (u .5) (v .5) (w .5) (x .5) (y .5) (trades .1) (n .1) (first .1) (trades .5) (n .5) (first .5),
+                        λ _. log-fits b t f l e log (u .1 .table) (v .1 .table) (w .1) (x .1) _ (y .1) (u .5) (v .5) (w .5) (x .5) (y .5) (trades .1) (n .1) (first .1) (trades .5) (n .5) (first .5),
                         λ st. (
                           refl,
                           λ long. (
@@ -123,15 +123,15 @@ asked o kn κs qs a good pre bs =
                               λ sent. λ lent′. (
                                 refl,
                                 (
-                                  λ _. events-fit b t f l e log (u .1) (v .1) (w .1) (x .1) _ (y .1) (u .5) (v .5) (w .5) (x .5) (y .5) (rows .1) (sent .1) (rows .5) (sent .5),
+                                  λ _. events-fit b t f l e log (u .1 .table) (v .1 .table) (w .1) (x .1) _ (y .1) (u .5) (v .5) (w .5) (x .5) (y .5) (rows .1) (sent .1) (rows .5) (sent .5),
                                   λ told. (
                                     refl,
                                     λ long′. (
                                       λ _. tt,
                                       λ r. (
                                         (tt, (refl, (refl, (refl, (ap (λ k. (a .1 .1 .1 .1 .0 .ptr, (a .1 .1 .1 .1 .0 .name, k))) long′, (ap (λ k. (a .1 .1 .1 .1 .1 .0 .ptr, (a .1 .1 .1 .1 .1 .0 .name, k))) long, tt)))))),
-                                        update-answers b t f l e log (u .1) (v .1) (w .1) (x .1) _ (y .1) (u .5) (v .5) (w .5) (x .5) (y .5) (rows .1) (sent .1) (rows .5) (sent .5) (r .1) _ _ (r .5) (told .5)
-                                            (log-is b t f l e log (u .1) (v .1) (w .1) (x .1) _ (y .1) (u .5) (v .5) (w .5) (x .5) (y .5) (trades .1) (n .1) (first .1) (trades .5) (n .5) (first .5) _ (st .5)),
+                                        update-answers b t f l e log (u .1 .table) (v .1 .table) (w .1) (x .1) _ (y .1) (u .5) (v .5) (w .5) (x .5) (y .5) (rows .1) (sent .1) (rows .5) (sent .5) (r .1) _ _ (r .5) (told .5)
+                                            (log-is b t f l e log (u .1 .table) (v .1 .table) (w .1) (x .1) _ (y .1) (u .5) (v .5) (w .5) (x .5) (y .5) (trades .1) (n .1) (first .1) (trades .5) (n .5) (first .5) _ (st .5)),
                                       ),
                                     ),
                                   ),

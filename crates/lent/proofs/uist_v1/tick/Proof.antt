@@ -92,7 +92,7 @@ asked o kn κs qs a good pre bs =
       λ t. (
         λ _. tt,
         λ x.
-            let f : TickFor e rows log (x .1) = for-log e rows log (t .1) (x .1) (t .5) (x .5) in (
+            let f : TickFor e rows log (x .1) = for-log e rows log (t .1 .table) (x .1) (t .5) (x .5) in (
               λ _. tt,
               λ trades. (
                 λ _. tt,

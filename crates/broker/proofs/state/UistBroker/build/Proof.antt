@@ -46,6 +46,13 @@ module _ (costs : TradeCosts) (first : Table) (room : ℕ) where
       record { broker = record { exchange = x; portfolio = record { latest = first; funds = f; costs = costs } }; number = 0 } ≡ answer n
   built x f n p q z = rw (p, q, z)
 
+-- the table that was read
+built-of : (costs : TradeCosts) (room : ℕ) {t u : Table} → t ≡ u → buildOf costs t room ≡ buildOf costs u room
+built-of costs room e = ap (λ (x : Table). buildOf costs x room) e
+
+table-requires : tie.Need-table-requires
+table-requires c κs = search needs
+
 cost-fault-requires : tie.Need-cost-fault-requires
 cost-fault-requires c κs = search needs
 
@@ -55,7 +62,7 @@ no-broker-requires c κs = search needs
 returns : tie.Need-returns
 returns c =
     let fault = c .before .before .cost-fault in
-    bad-costs _ _ _ _ _ (c .no-broker .ensures) (c .before .if1 .taken) ∙ by-drawn _ _ _ _ (fault .ensures)
+    bad-costs _ _ _ _ _ (c .no-broker .ensures) (c .before .if1 .taken) ∙ by-drawn _ _ _ _ (fault .ensures) ∙ built-of _ _ (c .before .before .before .table .ensures)
 
 no-broker-requires-2 : tie.Need-no-broker-requires-2
 no-broker-requires-2 c κs = search needs
@@ -63,7 +70,7 @@ no-broker-requires-2 c κs = search needs
 returns-2 : tie.Need-returns-2
 returns-2 c =
     let else = c .before .before .before in
-    refused _ _ _ _ _ (c .no-broker2 .ensures) (c .before .if2 .taken) ∙ good-costs _ _ _ _ (else .if1 .left) ∙ by-drawn _ _ _ _ (else .before .cost-fault .ensures)
+    refused _ _ _ _ _ (c .no-broker2 .ensures) (c .before .if2 .taken) ∙ good-costs _ _ _ _ (else .if1 .left) ∙ by-drawn _ _ _ _ (else .before .cost-fault .ensures) ∙ built-of _ _ (else .before .before .table .ensures)
 
 new-requires : tie.Need-new-requires
 new-requires c κs = search needs
@@ -77,11 +84,13 @@ returns-3 c =
     built _ _ _ _ _ _ (c .before .new .ensures) (c .none .ensures) (c .before .before .if2 .left)
     ∙ good-costs _ _ _ _ (else .if1 .left)
     ∙ by-drawn _ _ _ _ (else .before .cost-fault .ensures)
+    ∙ built-of _ _ (else .before .before .table .ensures)
 
 pub build-spec : {M : Type 1} → statement M
 build-spec =
     tie.close
     (tie.spec
+    table-requires
     cost-fault-requires
     no-broker-requires
     returns

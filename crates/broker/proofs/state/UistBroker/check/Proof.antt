@@ -72,10 +72,20 @@ module _ (b : UistBroker) (t f : Table) (n : ℕ) where
             queued = subst (λ (z : UistBroker). y .queued ≤ heldCount (moneyOf (z .portfolio))) booked (v .queued);
           }
 
+  -- the number drawn, by the tables that were read
+  drew : {k i : ℕ} {u : Table} → k ≡ checkNumber (b .exchange .counts) n i (u .fault) → i ≡ t .fault → u ≡ f → k ≡ number
+  drew {u = u} e p q = e ∙ ap (λ (j : ℕ). checkNumber (b .exchange .counts) n j (u .fault)) p ∙ ap (λ (v : Table). checkNumber (b .exchange .counts) n (t .fault) (v .fault)) q
+
 -- no shortfall
 no-shortfall : (b : UistBroker) → below (cashOf b) zero64 ≡ false → Rescues b (record { broker = b; done = true; queued = 0 })
 unfolding rescuedBy
 no-shortfall b h = record { broker = rw h; queued = omega arith }
+
+table-requires : tie.Need-table-requires
+table-requires c κs = search needs
+
+fault-requires : tie.Need-fault-requires
+fault-requires c κs = search needs
 
 check-fault-requires : tie.Need-check-fault-requires
 check-fault-requires c κs = search needs
@@ -83,8 +93,16 @@ check-fault-requires c κs = search needs
 tick-requires : tie.Need-tick-requires
 tick-requires c κs = search needs
 
+-- the number of the check
+the-number : (c : tie.After-check-fault) →
+    let a = c .before .before .before .before .before .args in
+    c .check-fault .result ≡ number (a .self) (a .tradable .table) (a .fetched .table) (a .log-length)
+the-number c =
+    let a = c .before .before .before .before .before .args in
+    drew (a .self) (a .tradable .table) (a .fetched .table) (a .log-length) (c .check-fault .ensures) (c .before .fault .ensures) (c .before .before .table .ensures)
+
 returns : tie.Need-returns
-returns c = refused _ _ _ _ _ _ (c .before .before .before .check-fault .ensures) (c .if1 .taken) (ap (λ (x : Ticked). x .trades) (c .before .before .tick .ensures))
+returns c = refused _ _ _ _ _ _ (the-number (c .before .before .before)) (c .if1 .taken) (ap (λ (x : Ticked). x .trades) (c .before .before .tick .ensures))
 
 merge-requires : tie.Need-merge-requires
 merge-requires c κs = search needs
@@ -94,32 +112,40 @@ settle-requires c κs = search needs
 
 -- no number is drawn
 none-drawn : (c : tie.Else1) →
-    let a = c .before .before .before .before .before .before .args in
-    number (a .self) (a .tradable) (a .fetched) (a .log-length) ≡ 0
-none-drawn c = sym (c .before .before .before .check-fault .ensures) ∙ c .if1 .left
+    let a = c .before .before .before .before .before .before .before .before .args in
+    number (a .self) (a .tradable .table) (a .fetched .table) (a .log-length) ≡ 0
+none-drawn c = sym (the-number (c .before .before .before)) ∙ c .if1 .left
+
+-- the fetched rows are merged
+the-merge : (c : tie.After-merge) →
+    let a = c .before .before .before .before .before .before .before .before .before .args in
+    c .merge .result ≡ mergeOf (a .self .portfolio .latest) (a .fetched .table)
+the-merge c = c .merge .ensures ∙ ap (mergeOf _) (c .before .before .before .before .before .before .table .ensures)
 
 returns-2 : tie.Need-returns-2
 returns-2 c =
     let m = c .before .before .before .before .before in
     let e = m .before in
-    acted _ _ _ _ (none-drawn e) _ (e .before .before .tick .ensures) _ (m .merge .ensures) _ (c .before .before .before .before .settle .ensures) _ (no-shortfall _ (not-true _ (c .if2 .taken)))
+    acted _ _ _ _ (none-drawn e) _ (e .before .before .tick .ensures) _ (the-merge m) _ (c .before .before .before .before .settle .ensures) _ (no-shortfall _ (not-true _ (c .if2 .taken)))
 
 rebalance-cash-requires : tie.Need-rebalance-cash-requires
 rebalance-cash-requires c κs =
     let e = c .before .before .before .before .before .before in
-    let a = e .before .before .before .before .before .before .args in
-    (fits (a .self) (a .tradable) (a .fetched) (a .log-length) (none-drawn e) _ (e .before .before .tick .ensures), not-false _ (c .if2 .left))
+    let a = e .before .before .before .before .before .before .before .before .args in
+    (fits (a .self) (a .tradable .table) (a .fetched .table) (a .log-length) (none-drawn e) _ (e .before .before .tick .ensures), not-false _ (c .if2 .left))
 
 returns-3 : tie.Need-returns-3
 returns-3 c =
     let m = c .before .before .before .before .before .before .before in
     let e = m .before in
-    acted _ _ _ _ (none-drawn e) _ (e .before .before .tick .ensures) _ (m .merge .ensures) _ (c .before .before .before .before .before .before .settle .ensures) _ (c .before .rebalance-cash .ensures)
+    acted _ _ _ _ (none-drawn e) _ (e .before .before .tick .ensures) _ (the-merge m) _ (c .before .before .before .before .before .before .settle .ensures) _ (c .before .rebalance-cash .ensures)
 
 pub check-spec : {M : Type 1} → statement M
 check-spec =
     tie.close
     (tie.spec
+    table-requires
+    fault-requires
     check-fault-requires
     tick-requires
     returns

@@ -10,6 +10,7 @@ use Rattle.account.specs.declared.Moved.{Moved}
 use Rattle.exchange.specs.State.{brokenOf}
 use Rattle.broker.specs.Cash.{withCash, cashOf, answered, cashMoved, depositOf}
 use Rattle.broker.specs.declared.state.UistBroker.{UistBroker}
+use Rattle.broker.proofs.Cashing.{deposits}
 use Rattle.broker.proofs.state.UistBroker.deposit_cash.Statement.{statement}
 use Rattle.broker.proofs.state.UistBroker.deposit_cash.Tie as tie
 
@@ -24,7 +25,9 @@ broken-requires c κs = search needs
 
 returns : tie.Need-returns
 unfolding cashMoved depositOf
-returns c = simp (sym (c .before .broken .ensures) ∙ c .if1 .taken)
+returns c =
+    let a = c .before .before .before .before .before .before .args in
+    deposits (a .self) (a .cash) _ (simp (sym (c .before .broken .ensures) ∙ c .if1 .taken))
 
 finite-requires : tie.Need-finite-requires
 finite-requires c κs = search needs
@@ -33,17 +36,19 @@ returns-2 : tie.Need-returns-2
 unfolding cashMoved depositOf
 returns-2 c =
     let else = c .before .before in
-    simp (sym (else .before .broken .ensures) ∙ else .if1 .left, sym (c .before .finite .ensures) ∙ not-true _ (c .if2 .taken))
+    let a = else .before .before .before .before .before .before .args in
+    deposits (a .self) (a .cash) _ (simp (sym (else .before .broken .ensures) ∙ else .if1 .left, sym (c .before .finite .ensures) ∙ not-true _ (c .if2 .taken)))
 
 returns-3 : tie.Need-returns-3
 unfolding cashMoved depositOf
 returns-3 c =
     let else = c .before .before .before in
-    simp (
+    let a = else .before .before .before .before .before .before .args in
+    deposits (a .self) (a .cash) _ (simp (
       sym (else .before .broken .ensures) ∙ else .if1 .left,
       sym (c .before .before .finite .ensures) ∙ not-false _ (c .before .if2 .left),
       c .if3 .taken,
-    )
+    ))
 
 credited-requires : tie.Need-credited-requires
 credited-requires c κs = search needs
@@ -55,12 +60,13 @@ returns-4 : tie.Need-returns-4
 returns-4 c =
     let else = c .before .before in
     let else1 = else .before .before .before in
+    deposits _ _ _ (
     deposited _ _ _ _
     (sym (else1 .before .broken .ensures) ∙ else1 .if1 .left)
     (sym (else .before .before .finite .ensures) ∙ not-false _ (else .before .if2 .left))
     (else .if3 .left)
-    (c .before .credited .ensures)
-    (c .with-cash .ensures)
+    (c .before .credited .ensures .0)
+    (c .with-cash .ensures))
 
 pub deposit-cash-spec : {M : Type 1} → statement M
 deposit-cash-spec =

@@ -1,31 +1,26 @@
--- `UistBroker::executed_trade_count` meets its contract: each return is the test on its path. Assumes nothing.
-use mathlib.Core.Bool.{true, false}
-use mathlib.Core.Path.{_≡_, sym, _∙_}
+-- `UistBroker::executed_trade_count` meets its contract: it is the exchange's count. Assumes nothing.
+use mathlib.Core.Path.{_≡_, ap, _∙_}
 use borrow.Author.Needs.{needs}
-use Rattle.market.specs.Numbers.{drawn}
-use Rattle.exchange.specs.State.{brokenOf}
-use Rattle.exchange.specs.declared.state.Counts.{Counts}
+use Rattle.exchange.specs.State.{tradeCountOf}
+use Rattle.exchange.specs.declared.state.UistV1.{UistV1}
+use Rattle.exchange.specs.declared.read.TradeCount.{TradeCount}
 use Rattle.broker.specs.Read.{brokerNumber, readCount}
+use Rattle.broker.specs.declared.read.CountRead.{CountRead}
 use Rattle.broker.proofs.state.UistBroker.executed_trade_count.Statement.{statement}
 use Rattle.broker.proofs.state.UistBroker.executed_trade_count.Tie as tie
 
-module _ (c : Counts) where
-  refused : brokenOf c ≡ true → record { count = 0; number = 16 } ≡ readCount (c .logged) (brokerNumber c)
-  unfolding brokerNumber readCount drawn
-  refused b = rw b
+abbrev countIn : TradeCount → CountRead
+countIn x = record { count = x .count; number = x .number }
 
-  counted : brokenOf c ≡ false → record { count = c .logged; number = 0 } ≡ readCount (c .logged) (brokerNumber c)
-  unfolding brokerNumber readCount drawn
-  counted b = rw b
+counted : (e : UistV1) (x : TradeCount) → x ≡ tradeCountOf e → countIn x ≡ readCount (e .counts .logged) (brokerNumber (e .counts))
+unfolding tradeCountOf brokerNumber readCount
+counted e x p = ap countIn p
 
-broken-requires : tie.Need-broken-requires
-broken-requires c κs = search needs
+executed-trade-count-requires : tie.Need-executed-trade-count-requires
+executed-trade-count-requires c κs = search needs
 
 returns : tie.Need-returns
-returns c = refused _ (sym (c .before .broken .ensures) ∙ c .if1 .taken)
-
-returns-2 : tie.Need-returns-2
-returns-2 c = counted _ (sym (c .before .broken .ensures) ∙ c .if1 .left)
+returns c = counted _ _ (c .executed-trade-count .ensures)
 
 pub executed-trade-count-spec : {M : Type 1} → statement M
-executed-trade-count-spec = tie.close (tie.spec broken-requires returns returns-2)
+executed-trade-count-spec = tie.close (tie.spec executed-trade-count-requires returns)

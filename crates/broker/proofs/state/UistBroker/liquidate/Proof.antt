@@ -37,7 +37,7 @@ returns-2 c =
     let failed = c .before .before in
     let a = failed .before .before .before .before .args in
     liquidates-not (a .self) (a .amount) (failed .before .sales-for .result) (failed .before .sales-for .ensures) _ (failed .if1 .left)
-    (c .with-cash .ensures ∙ debits (a .self) (a .amount) _ (ap (λ (m : Moved). m .cash) (c .before .debited .ensures)))
+    (c .with-cash .ensures ∙ debits (a .self) (a .amount) _ (ap (λ (m : Moved). m .cash) (c .before .debited .ensures .0)))
 
 pub liquidate-spec : {M : Type 1} → statement M
 liquidate-spec =

@@ -26,12 +26,12 @@ amounts-fault-requires c κs = search needs
 returns : tie.Need-returns
 returns c = refused _ _ _ (c .before .amounts-fault .ensures) (c .if1 .taken)
 
-trade-impact-total-requires : tie.Need-trade-impact-total-requires
-trade-impact-total-requires c κs = search needs
+net-of-costs-requires : tie.Need-net-of-costs-requires
+net-of-costs-requires c κs = search needs
 
 returns-2 : tie.Need-returns-2
-returns-2 c = answered _ _ _ _ (c .before .before .amounts-fault .ensures) (c .before .if1 .left) (c .trade-impact-total .ensures)
+returns-2 c = answered _ _ _ _ (c .before .before .amounts-fault .ensures) (c .before .if1 .left) (c .net-of-costs .ensures)
 
 pub trade-impact-total-spec : {M : Type 1} → statement M
 trade-impact-total-spec =
-    tie.close (tie.spec amounts-fault-requires returns trade-impact-total-requires returns-2)
+    tie.close (tie.spec amounts-fault-requires returns net-of-costs-requires returns-2)

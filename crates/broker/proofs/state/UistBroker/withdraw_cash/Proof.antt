@@ -12,6 +12,7 @@ use Rattle.exchange.specs.State.{brokenOf}
 use Rattle.rules.specs.Amounts.{minus, below}
 use Rattle.broker.specs.Cash.{withCash, cashOf, answered, cashMoved, withdrawOf}
 use Rattle.broker.specs.declared.state.UistBroker.{UistBroker}
+use Rattle.broker.proofs.Cashing.{withdraws}
 use Rattle.broker.proofs.state.UistBroker.withdraw_cash.Statement.{statement}
 use Rattle.broker.proofs.state.UistBroker.withdraw_cash.Tie as tie
 
@@ -37,7 +38,9 @@ broken-requires c κs = search needs
 
 returns : tie.Need-returns
 unfolding cashMoved withdrawOf
-returns c = simp (sym (c .before .broken .ensures) ∙ c .if1 .taken)
+returns c =
+    let a = c .before .before .before .before .before .before .args in
+    withdraws (a .self) (a .cash) _ (simp (sym (c .before .broken .ensures) ∙ c .if1 .taken))
 
 finite-requires : tie.Need-finite-requires
 finite-requires c κs = search needs
@@ -46,17 +49,19 @@ returns-2 : tie.Need-returns-2
 unfolding cashMoved withdrawOf
 returns-2 c =
     let else = c .before .before in
-    simp (sym (else .before .broken .ensures) ∙ else .if1 .left, sym (c .before .finite .ensures) ∙ not-true _ (c .if2 .taken))
+    let a = else .before .before .before .before .before .before .args in
+    withdraws (a .self) (a .cash) _ (simp (sym (else .before .broken .ensures) ∙ else .if1 .left, sym (c .before .finite .ensures) ∙ not-true _ (c .if2 .taken)))
 
 returns-3 : tie.Need-returns-3
 unfolding cashMoved withdrawOf
 returns-3 c =
     let else = c .before .before .before in
-    simp (
+    let a = else .before .before .before .before .before .before .args in
+    withdraws (a .self) (a .cash) _ (simp (
       sym (else .before .broken .ensures) ∙ else .if1 .left,
       sym (c .before .before .finite .ensures) ∙ not-false _ (c .before .if2 .left),
       c .if3 .taken,
-    )
+    ))
 
 debited-requires : tie.Need-debited-requires
 debited-requires c κs = search needs
@@ -68,12 +73,13 @@ returns-4 : tie.Need-returns-4
 returns-4 c =
     let else = c .before .before in
     let else1 = else .before .before .before in
+    withdraws _ _ _ (
     withdrawn _ _ _ _
     (sym (else1 .before .broken .ensures) ∙ else1 .if1 .left)
     (sym (else .before .before .finite .ensures) ∙ not-false _ (else .before .if2 .left))
     (else .if3 .left)
-    (c .before .debited .ensures)
-    (c .with-cash .ensures)
+    (c .before .debited .ensures .0)
+    (c .with-cash .ensures))
 
 pub withdraw-cash-spec : {M : Type 1} → statement M
 withdraw-cash-spec =

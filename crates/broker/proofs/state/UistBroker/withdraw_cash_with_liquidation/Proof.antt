@@ -6,6 +6,7 @@ use borrow.Author.Needs.{needs}
 use borrow.Author.Tests.{not-true, not-false}
 use Rattle.exchange.specs.State.{brokenOf}
 use Rattle.exchange.proofs.Counting.{sound-facts}
+use Rattle.broker.proofs.Cashing.{liquidates}
 use Rattle.broker.proofs.Selling.{answers-broken, answers-not-finite, answers-by}
 use Rattle.broker.proofs.state.UistBroker.withdraw_cash_with_liquidation.Statement.{
   statement,
@@ -18,7 +19,7 @@ broken-requires c κs = search needs
 returns : tie.Need-returns
 returns c =
     let a = c .before .before .before .before .args in
-    answers-broken (a .self) (a .cash) (sym (c .before .broken .ensures) ∙ c .if1 .taken)
+    liquidates _ _ _ (answers-broken (a .self) (a .cash) (sym (c .before .broken .ensures) ∙ c .if1 .taken))
 
 finite-requires : tie.Need-finite-requires
 finite-requires c κs = search needs
@@ -33,7 +34,7 @@ is-finite c = sym (c .before .finite .ensures) ∙ not-false _ (c .if2 .left)
 returns-2 : tie.Need-returns-2
 returns-2 c =
     let a = c .before .before .before .before .before .before .args in
-    answers-not-finite (a .self) (a .cash) (not-broken (c .before .before)) (sym (c .before .finite .ensures) ∙ not-true _ (c .if2 .taken))
+    liquidates _ _ _ (answers-not-finite (a .self) (a .cash) (not-broken (c .before .before)) (sym (c .before .finite .ensures) ∙ not-true _ (c .if2 .taken)))
 
 liquidate-requires : tie.Need-liquidate-requires
 liquidate-requires c κs = let s = sound-facts _ (not-broken (c .before .before)) in record { places = s .together; rows = s .bounded }
@@ -42,13 +43,13 @@ returns-3 : tie.Need-returns-3
 returns-3 c =
     let x = c .before .before in
     let a = x .before .before .before .before .before .before .before .args in
-    answers-by (a .self) (a .cash) (not-broken (x .before .before .before)) (is-finite (x .before)) (x .liquidate .result) true (x .liquidate .ensures) (c .if3 .taken)
+    liquidates _ _ _ (answers-by (a .self) (a .cash) (not-broken (x .before .before .before)) (is-finite (x .before)) (x .liquidate .result) true (x .liquidate .ensures) (c .if3 .taken))
 
 returns-4 : tie.Need-returns-4
 returns-4 c =
     let x = c .before .before in
     let a = x .before .before .before .before .before .before .before .args in
-    answers-by (a .self) (a .cash) (not-broken (x .before .before .before)) (is-finite (x .before)) (x .liquidate .result) false (x .liquidate .ensures) (c .if3 .left)
+    liquidates _ _ _ (answers-by (a .self) (a .cash) (not-broken (x .before .before .before)) (is-finite (x .before)) (x .liquidate .result) false (x .liquidate .ensures) (c .if3 .left))
 
 pub withdraw-cash-with-liquidation-spec : {M : Type 1} → statement M
 withdraw-cash-with-liquidation-spec =

@@ -104,6 +104,9 @@ kept-fits : (book : List Booked) (t : Table) (r : ℕ) (x : Executed) → x ≡ 
 unfolding executeOf
 kept-fits book t r x p = rw p (few-executed (rowAt t) book r)
 
+table-requires : tie.Need-table-requires
+table-requires c κs = search needs
+
 tick-fault-requires : tie.Need-tick-fault-requires
 tick-fault-requires c κs = search needs
 
@@ -116,8 +119,8 @@ count-unless-requires-2 c κs = search needs
 -- what the tick goes over, after the second count
 over-fits : (c : tie.After-count-unless2) → c .before .count-unless .result + c .count-unless2 .result ≤ 1024
 over-fits c =
-    let s = c .before .before .before .before .args in
-    omega (arith, c .before .count-unless .ensures, c .count-unless2 .ensures, fits (s .self .counts) (s .quotes .fault) _ (c .before .before .tick-fault .ensures))
+    let t = c .before .before .before .before in
+    omega (arith, c .before .count-unless .ensures, c .count-unless2 .ensures, fits (t .before .args .self .counts) (t .table .result .fault) _ (c .before .before .tick-fault .ensures))
 
 execute-orders-requires : tie.Need-execute-orders-requires
 execute-orders-requires c κs = omega (arith, over-fits (c .before))
@@ -131,8 +134,8 @@ book-waiting-requires c κs = (over-fits (c .before .before .before .before), om
 counts-after-requires : tie.Need-counts-after-requires
 counts-after-requires c κs z =
     let x = c .before .before .before .before in
-    let s = x .before .before .before .before .before .before .args in
-    logs-fit (s .self .counts) (s .quotes .fault) _ _ (x .before .before .before .before .tick-fault .ensures)
+    let t = x .before .before .before .before .before .before in
+    logs-fit (t .before .args .self .counts) (t .table .result .fault) _ _ (x .before .before .before .before .tick-fault .ensures)
     (omega (arith, kept-at x, x .before .before .before .count-unless .ensures)) z
 
 count-unless-requires-3 : tie.Need-count-unless-requires-3
@@ -142,11 +145,13 @@ returns : tie.Need-returns
 returns c =
     done _ _ _ _ _ _ _ _ _ (c .before .before .before .before .before .before .before .before .before .before .tick-fault .ensures) (c .before .before .before .before .before .before .before .before .before .count-unless .ensures) (c .before .before .before .before .before .before .before .before .count-unless2 .ensures)
     (c .before .before .before .before .before .before .execute-orders .ensures) (c .before .before .before .book-waiting .ensures) (c .before .counts-after .ensures) (c .count-unless3 .ensures)
+    ∙ ap (tickOf _) (c .before .before .before .before .before .before .before .before .before .before .before .before .table .ensures)
 
 pub tick-spec : {M : Type 1} → statement M
 tick-spec =
     tie.close
     (tie.spec
+    table-requires
     tick-fault-requires
     count-unless-requires
     count-unless-requires-2

@@ -1,0 +1,2 @@
+-- The worked cases compute.
+pub mod Cases

@@ -1,0 +1,19 @@
+-- The table of worked cases. A case's number begins with the section of document 01 whose rules it tries. Definitions only.
+use Rattle.ledger.specs.Examples.{AllHold}
+use Rattle.cases.specs.Figures.{figures}
+use Rattle.cases.specs.Tables.{tables}
+use Rattle.cases.specs.Trading.{trading}
+use Rattle.cases.specs.Sending.{sending}
+use Rattle.cases.specs.Booking.{booking, valuing, folding}
+use Rattle.cases.specs.Liquidating.{liquidating}
+use Rattle.cases.specs.Checking.{checking}
+use Rattle.cases.specs.Weighing.{weighing}
+
+-- every case is what document 01 makes of it: section 1; section 2 and its numbers; section 3; section 4, sends, trades, values, cost basis with the turnover of
+-- section 7, liquidations, checks; section 5
+abbrev pub Cases : Type 0
+Cases =
+    AllHold figures ×
+    AllHold tables ×
+    AllHold trading ×
+    AllHold sending × AllHold booking × AllHold valuing × AllHold folding × AllHold liquidating × AllHold checking × AllHold weighing
