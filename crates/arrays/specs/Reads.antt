@@ -10,7 +10,7 @@ use Rattle.costs.specs.declared.BrokerCost.the-variants.{Flat}
 use Rattle.costs.specs.declared.Cost.{Cost}
 use Rattle.broker.specs.declared.state.UistBroker.{UistBroker}
 use Rattle.reads.specs.Answers.{AnswersList}
-use Rattle.reads.specs.declared.rows.Holding.{Holding}
+use Rattle.reads.specs.declared.collected.Holding.{Holding}
 use Rattle.reads.specs.declared.uist.ListRead.{ListRead}
 use Rattle.arrays.specs.Arrays.{lentOf, pastLent}
 

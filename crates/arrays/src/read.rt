@@ -10,7 +10,7 @@ use broker::state::UistBroker;
 use costs::BrokerCost;
 use costs::Cost;
 use market::quote::Quote;
-use reads::rows::Holding;
+use reads::collected::Holding;
 use reads::uist;
 use reads::uist::ListRead;
 

@@ -26,8 +26,8 @@ use Rattle.cases.specs.Weighing.{weighing}
 use Rattle.cases.specs.Cases.{Cases}
 
 figures-hold : AllHold figures
-unfolding Ieee.ofInt Ieee.sub Ieee.mul Ieee.ofBits floorOf ceilOf tradeImpact tradeImpactTotal calc tradeCosts costsOf noCosts withCost
-figures-hold = (refl, (refl, (refl, (refl, (refl, (refl, (refl, (refl, (refl, (refl, (refl, (refl, (refl, (refl, (refl, (refl, _))))))))))))))))
+unfolding Ieee.ofInt Ieee.sub Ieee.mul Ieee.ofBits floorOf ceilOf drawn tradeImpact tradeImpactTotal calc tradeCosts costsOf noCosts withCost
+figures-hold = (refl, (refl, (refl, (refl, (refl, (refl, (refl, (refl, (refl, (refl, (refl, (refl, (refl, (refl, (refl, (refl, (refl, _)))))))))))))))))
 
 tables-hold : AllHold tables
 unfolding Ieee.le Ieee.ofInt Ieee.ofBits drawn tableOf tableFrom emptyTable
@@ -38,8 +38,8 @@ unfolding Ieee.le Ieee.ofInt Ieee.mul tradeOn
 trading-hold = (refl, (refl, (refl, (refl, (refl, (refl, (refl, (refl, (refl, (refl, (refl, (refl, (refl, (refl, (refl, _)))))))))))))))
 
 sending-hold : AllHold sending
-unfolding Ieee.le Ieee.ofInt Ieee.sub Ieee.mul Ieee.ofBits drawn expected failedIf
-sending-hold = (refl, (refl, (refl, (refl, (refl, (refl, (refl, (refl, (refl, (refl, (refl, (refl, (refl, (refl, (refl, (refl, (refl, (refl, _))))))))))))))))))
+unfolding Ieee.le Ieee.ofInt Ieee.sub Ieee.mul Ieee.ofBits drawn expected failedIf insertEvent
+sending-hold = (refl, (refl, (refl, (refl, (refl, (refl, (refl, (refl, (refl, (refl, (refl, (refl, (refl, (refl, (refl, (refl, (refl, (refl, (refl, _)))))))))))))))))))
 
 booking-hold : AllHold booking
 unfolding Ieee.le Ieee.ofInt Ieee.sub Ieee.ofBits settled fetched
@@ -59,7 +59,7 @@ liquidating-hold = (refl, (refl, (refl, (refl, (refl, (refl, (refl, (refl, (refl
 
 checking-hold : AllHold checking
 unfolding Ieee.le Ieee.ofInt Ieee.sub Ieee.mul Ieee.div Ieee.ofBits ceilOf drawn tradeOn tradeImpactTotal symbols liquidationValue settled fetched expected failedIf walk salesFor debitedBy start sendEvent Ledger.sending insertEvent inserting Ledger.liquidating rescuing Ledger.checking callTests acting step answerAs run answers
-checking-hold = (refl, (refl, (refl, (refl, (refl, (refl, (refl, (refl, (refl, (refl, _))))))))))
+checking-hold = (refl, (refl, (refl, (refl, (refl, (refl, (refl, (refl, (refl, (refl, (refl, _)))))))))))
 
 weighing-hold : AllHold weighing
 unfolding Ieee.le Ieee.ofInt Ieee.sub Ieee.mul Ieee.div Ieee.ofBits floorOf drawn tradeImpact tradeImpactTotal symbols totalValue liquidationValue fetched expected sharesFor orderFor wanted planOf sendEvent Ledger.sending sendEvents rescuing Ledger.checking callTests answerAs

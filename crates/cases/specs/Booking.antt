@@ -82,7 +82,7 @@ valuing =
     -- the same with a part 0.5 of the values 2, 2 and 4
     example 448 (liquidationValue (large (PctOfValue (halves 1) ∷ []) 2)) even+2 ∷ []
 
--- a log of two symbols, and one of three values
+-- a log of three symbols, and one of three values
 abbrev log : List Trade
 log =
     tradeAt Buy 1 (num 10) (num 100) (pos 1) ∷ tradeAt Buy 2 (num 4) (num 80) (pos 1) ∷

@@ -86,4 +86,6 @@ checking =
     -- a check draws its tradable table's number, 1 for symbol 256; else that of the fetched one, 2 for a bid of 0
     example 475
     (Ledger.answers (after [] []) (check (quote 256 (num 1) (num 1) ∷ []) (at 0 1) ∷ check (at 1 1) (at 0 1) ∷ []))
-    (traded 1 0 ∷ traded 2 0 ∷ []) ∷ []
+    (traded 1 0 ∷ traded 2 0 ∷ []) ∷
+    -- cash: 100 + 5 - 30, and 12 changes nothing
+    example 476 (after [] (deposit (num 100) ∷ deposit (num 5) ∷ withdraw (num 30) ∷ withdraw (num 76) ∷ []) .money .cash) (num 75) ∷ []

@@ -4,16 +4,19 @@ use mathlib.Core.List.{List, [], _∷_, map, foldl}
 use lib.ListN.{replicate}
 use lib.Ieee.{Float, nan, inf}
 use Rattle.floats.specs.Whole.{floorOf, ceilOf}
+use Rattle.market.specs.Numbers.{drawn}
 use Rattle.costs.specs.declared.BrokerCost.{BrokerCost}
 use Rattle.costs.specs.declared.BrokerCost.the-variants.{PerShare, PctOfValue, Flat}
 use Rattle.costs.specs.Costs.{tradeImpactTotal, tradeCosts, isFinite}
 use Rattle.costs.specs.Kept.{costsOf, noCosts, withCost}
+use Rattle.broker.specs.Build.{costTests}
 use Rattle.ledger.specs.Examples.{Example, example, num, halves}
 use Rattle.cases.specs.Made.{ratio, negative, even, even+2}
 
--- 1.5, 0.5, 0, -0, -0.5, -1.5, the float 4,503,599,627,370,495.5 below 2 to the 52nd, infinities, NaN
+-- 2, 1.5, 0.5, 0, -0, -0.5, -1.5, -2, the float 4,503,599,627,370,495.5 below 2 to the 52nd, infinities, NaN
 abbrev floats : List Float
-floats = halves 3 ∷ halves 1 ∷ num 0 ∷ negative 0 1 ∷ negative 1 2 ∷ negative 3 2 ∷ halves 9007199254740991 ∷ inf false ∷ inf true ∷ nan ∷ []
+floats =
+    num 2 ∷ halves 3 ∷ halves 1 ∷ num 0 ∷ negative 0 1 ∷ negative 1 2 ∷ negative 3 2 ∷ negative 2 1 ∷ halves 9007199254740991 ∷ inf false ∷ inf true ∷ nan ∷ []
 
 -- what costs leave of the budget 1,000 and the price 10
 abbrev left : List BrokerCost → Bool → Float × Float
@@ -21,12 +24,12 @@ left costs is_buy = let i = tradeImpactTotal costs (num 1000) (num 10) is_buy in
 
 abbrev pub figures : List Example
 figures =
-    -- round down: 1, 0, 0, -0, -1, -2, 4,503,599,627,370,495; infinities and NaN themselves
+    -- round down: 2, 1, 0, 0, -0, -1, -2, -2, 4,503,599,627,370,495; infinities and NaN themselves
     example 101 (map floorOf floats)
-    (num 1 ∷ num 0 ∷ num 0 ∷ negative 0 1 ∷ negative 1 1 ∷ negative 2 1 ∷ num 4503599627370495 ∷ inf false ∷ inf true ∷ nan ∷ []) ∷
-    -- round up: 2, 1, 0, -0, -0 between -1 and 0, -1, 4,503,599,627,370,496
+    (num 2 ∷ num 1 ∷ num 0 ∷ num 0 ∷ negative 0 1 ∷ negative 1 1 ∷ negative 2 1 ∷ negative 2 1 ∷ num 4503599627370495 ∷ inf false ∷ inf true ∷ nan ∷ []) ∷
+    -- round up: 2, 2, 1, 0, -0, -0 between -1 and 0, -1, -2, 4,503,599,627,370,496
     example 102 (map ceilOf floats)
-    (num 2 ∷ num 1 ∷ num 0 ∷ negative 0 1 ∷ negative 0 1 ∷ negative 1 1 ∷ num 4503599627370496 ∷ inf false ∷ inf true ∷ nan ∷ []) ∷
+    (num 2 ∷ num 2 ∷ num 1 ∷ num 0 ∷ negative 0 1 ∷ negative 0 1 ∷ negative 1 1 ∷ negative 2 1 ∷ num 4503599627370496 ∷ inf false ∷ inf true ∷ nan ∷ []) ∷
     -- per share 0.5: a buy at 10 + 0.5
     example 103 (left (PerShare (halves 1) ∷ []) true) (num 1000, halves 21) ∷
     -- a sale at 10 - 0.5
@@ -55,4 +58,8 @@ figures =
     -- a cost that is not finite, of each kind, and one that is
     example 115 (map isFinite (PerShare (inf false) ∷ PctOfValue nan ∷ Flat (inf true) ∷ Flat (num 2) ∷ [])) (false ∷ false ∷ false ∷ true ∷ []) ∷
     -- 16 costs, as many as a broker has: 1,000 less 16
-    example 116 (left (costsOf (foldl withCost noCosts (replicate 16 (Flat (num 1))))) true) (num 984, num 10) ∷ []
+    example 116 (left (costsOf (foldl withCost noCosts (replicate 16 (Flat (num 1))))) true) (num 984, num 10) ∷
+    -- the builder's numbers: 16 costs pass; 17 draw 14, which comes before 2; a cost that is not finite draws 2
+    example 117
+    (drawn (costTests 16 (Flat (num 1) ∷ [])) ∷ drawn (costTests 17 (Flat nan ∷ [])) ∷ drawn (costTests 2 (Flat (num 1) ∷ PerShare nan ∷ [])) ∷ [])
+    (0 ∷ 14 ∷ 2 ∷ []) ∷ []

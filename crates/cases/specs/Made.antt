@@ -24,16 +24,13 @@ ratio n d = Ieee.round binary64 false n d
 abbrev pub negative : ℕ → ℕ → Float
 negative n d = Ieee.round binary64 true n d
 
--- 9,007,199,254,740,992 = 2 to the 53rd, from where on the floats are the even numbers, and the two next ones. A sum that lies between two of them is the
--- one whose half is even: so `even` and 1 is `even`, and `even+2` and 1 is `even+4`
+-- 9,007,199,254,740,992, 2 to the 53rd, from where on the floats are the even numbers, and the next one. A sum that lies half way between two of them is
+-- the one whose half is even: 1 more than `even` is `even`, 1 more than `even+2` is the one after it
 abbrev pub even : Float
 even = fin false 1 (pos 53)
 
 abbrev pub even+2 : Float
 even+2 = fin false 4503599627370497 (pos 1)
-
-abbrev pub even+4 : Float
-even+4 = fin false 2251799813685249 (pos 2)
 
 -- ---- quotes and trades with a date
 

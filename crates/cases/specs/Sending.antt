@@ -3,13 +3,16 @@ use Prim.Native.Nat.{ℕ}
 use mathlib.Core.Bool.{true, false}
 use mathlib.Core.List.{List, [], _∷_, map}
 use mathlib.Core.Option.{Option, none, some}
+use lib.ListN.{replicate}
 use lib.Ieee.{Float, nan}
 use Rattle.market.specs.Numbers.{_draws_, drawn}
 use Rattle.market.specs.Orders.{marketOrder, pricedOrder}
 use Rattle.market.specs.declared.order.Order.{Order}
 use Rattle.market.specs.declared.order.OrderType.the-variants.{MarketSell, MarketBuy, LimitSell, LimitBuy, StopSell, StopBuy}
+use Rattle.orders.specs.Orders.{plain}
 use Rattle.rules.specs.Money.{Money, expected, failedIf}
 use Rattle.rules.specs.Sends.{sendTests}
+use Rattle.ledger.specs.Ledger.{insertEvent}
 use Rattle.ledger.specs.Examples.{Example, example, num, halves, quote, buy, sell}
 use Rattle.cases.specs.Made.{negative, having}
 
@@ -21,13 +24,20 @@ with cash held = having [] (quote 1 (num 9) (num 10) ∷ []) cash held []
 abbrev number : Money → Order → ℕ
 number m o = drawn (sendTests m [] o)
 
--- with neither 10 nor 11 left to pass
+-- the same where 10 and 11 both hold
 abbrev crowded : Money → Order → ℕ
 crowded m o = drawn (sendTests m ((true draws 10) ∷ (true draws 11) ∷ []) o)
 
--- pending of symbols 1 and 2 after a send, where that of 1 was p and that of 2 was 7
+-- pending of symbols 1 and 2 after a send, p being what was pending before
 abbrev pendingAfter : List (ℕ × Float) → Order → List (Option Float)
 pendingAfter p o = map (expected o (having [] [] (num 0) [] p) .pending) (1 ∷ 2 ∷ [])
+
+-- the number that a direct insertion draws, or 0, where so many orders wait and the log has so many rows
+abbrev roomFor : ℕ → ℕ → ℕ
+roomFor rows orders =
+    insertEvent
+    (record { room = rows; money = with (num 0) []; orders = record { waiting = replicate orders (plain (sell 1 1)); booked = []; trades = [] } })
+    (sell 1 1) .number
 
 abbrev pub sending : List Example
 sending =
@@ -68,4 +78,6 @@ sending =
     example 416 (pendingAfter ((1, negative 3 1) ∷ []) (buy 1 3)) (some (num 0) ∷ none ∷ []) ∷
     -- cash and holdings do not move
     example 417 (expected (buy 1 3) (with (num 100) ((1, num 5) ∷ [])) .cash ∷ []) (num 100 ∷ []) ∷
-    example 418 (expected (buy 1 3) (with (num 100) ((1, num 5) ∷ [])) .held 1) (some (num 5)) ∷ []
+    example 418 (expected (buy 1 3) (with (num 100) ((1, num 5) ∷ [])) .held 1) (some (num 5)) ∷
+    -- 10 where the orders taken are as many as the log has rows, before 11 where 1,024 rest and wait; one order fewer passes
+    example 419 (roomFor 1024 1024 ∷ roomFor 2000 1024 ∷ roomFor 2000 1023 ∷ roomFor 1024 1023 ∷ []) (10 ∷ 11 ∷ 0 ∷ 0 ∷ []) ∷ []

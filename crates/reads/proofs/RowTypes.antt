@@ -4,12 +4,12 @@ use Rattle.market.specs.Orders.{zero64}
 use Rattle.costs.specs.declared.BrokerCost.the-variants.{Flat}
 use Rattle.costs.proofs.Cost as Co
 use Rattle.costs.proofs.Cost.Laws as Co′
-use Rattle.reads.proofs.rows.Holding as Ho
-use Rattle.reads.proofs.rows.Holding.Laws as Ho′
-use Rattle.reads.proofs.rows.HoldingList as HoL
-use Rattle.reads.proofs.rows.HoldingList.Laws as HoL′
-use Rattle.reads.proofs.rows.QuoteList as QuL
-use Rattle.reads.proofs.rows.QuoteList.Laws as QuL′
+use Rattle.reads.proofs.collected.Holding as Ho
+use Rattle.reads.proofs.collected.Holding.Laws as Ho′
+use Rattle.reads.proofs.collected.HoldingList as HoL
+use Rattle.reads.proofs.collected.HoldingList.Laws as HoL′
+use Rattle.reads.proofs.collected.QuoteList as QuL
+use Rattle.reads.proofs.collected.QuoteList.Laws as QuL′
 use Rattle.reads.proofs.uist.ListRead as Re
 use Rattle.reads.proofs.uist.ListRead.Laws as Re′
 use Rattle.walks.proofs.Walk.{Kin, struct}

@@ -11,7 +11,7 @@ use Rattle.costs.specs.declared.BrokerCost.{BrokerCost}
 use Rattle.costs.specs.declared.Cost.{Cost}
 use Rattle.rules.specs.Money.{Money}
 use Rattle.rules.specs.Values.{symbols}
-use Rattle.reads.specs.declared.rows.Holding.{Holding}
+use Rattle.reads.specs.declared.collected.Holding.{Holding}
 
 -- a row for a symbol of which the map has an entry, none for another
 abbrev pub rowsAt : {A B : Type 0} → (ℕ → A → B) → (ℕ → Option A) → ℕ → List B

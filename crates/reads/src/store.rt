@@ -3,7 +3,7 @@ ghost use mathlib.Core.Path.{_≡_};
 ghost use Prim.Native.Nat.{_+_, _≤_};
 ghost use lib.ListN.{length};
 ghost use lib.Seq.{paste};
-use crate::rows::Holding;
+use crate::collected::Holding;
 use costs::Cost;
 use market::quote::Quote;
 

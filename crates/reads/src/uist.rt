@@ -5,10 +5,10 @@ ghost use Prim.Native.Nat.{min};
 ghost use Rattle.broker.specs.State.{moneyOf};
 ghost use Rattle.reads.specs.Rows.{positionRows, holdingRows, pendingRows, quoteRows, costRows};
 ghost use Rattle.reads.specs.Answers.{readOf, AnswersList};
-use crate::rows;
-use crate::rows::Holding;
-use crate::rows::HoldingList;
-use crate::rows::QuoteList;
+use crate::collected;
+use crate::collected::Holding;
+use crate::collected::HoldingList;
+use crate::collected::QuoteList;
 use crate::store::store_costs;
 use crate::store::store_holdings;
 use crate::store::store_quotes;
@@ -93,7 +93,7 @@ pub(crate) fn cost_count(x: TradeCosts) -> usize
 pub fn get_positions(broker: UistBroker, positions: &mut [u32]) -> ListRead
     ensures { λ r. ⌜ AnswersList broker (positionRows (moneyOf (broker .portfolio))) (now (positions .entry)) r (now (positions .exit)) ⌝ }
 {
-    let x = rows::held(broker);
+    let x = collected::held(broker);
     let read = list_read(broker, x.count, positions.len());
     let n = read.count;
     let mut i: usize = 0;
@@ -109,7 +109,7 @@ pub fn get_positions(broker: UistBroker, positions: &mut [u32]) -> ListRead
 pub fn get_holdings(broker: UistBroker, holdings: &mut [Holding]) -> ListRead
     ensures { λ r. ⌜ AnswersList broker (holdingRows (moneyOf (broker .portfolio))) (now (holdings .entry)) r (now (holdings .exit)) ⌝ }
 {
-    let x = rows::held(broker);
+    let x = collected::held(broker);
     let read = list_read(broker, holding_count(x), holdings.len());
     store_holdings(holdings, 0, holdings_in(x), written(read));
     read
@@ -119,7 +119,7 @@ pub fn get_holdings(broker: UistBroker, holdings: &mut [Holding]) -> ListRead
 pub fn get_pending_orders(broker: UistBroker, pending: &mut [Holding]) -> ListRead
     ensures { λ r. ⌜ AnswersList broker (pendingRows (moneyOf (broker .portfolio))) (now (pending .entry)) r (now (pending .exit)) ⌝ }
 {
-    let x = rows::pending(broker);
+    let x = collected::pending(broker);
     let read = list_read(broker, holding_count(x), pending.len());
     store_holdings(pending, 0, holdings_in(x), written(read));
     read
@@ -129,7 +129,7 @@ pub fn get_pending_orders(broker: UistBroker, pending: &mut [Holding]) -> ListRe
 pub fn get_quotes(broker: UistBroker, quotes: &mut [Quote]) -> ListRead
     ensures { λ r. ⌜ AnswersList broker (quoteRows (moneyOf (broker .portfolio))) (now (quotes .entry)) r (now (quotes .exit)) ⌝ }
 {
-    let x = rows::latest(broker);
+    let x = collected::latest(broker);
     let read = list_read(broker, quote_count(x), quotes.len());
     store_quotes(quotes, 0, quotes_in(x), written(read));
     read
@@ -139,7 +139,7 @@ pub fn get_quotes(broker: UistBroker, quotes: &mut [Quote]) -> ListRead
 pub fn get_trade_costs(broker: UistBroker, costs: &mut [Cost]) -> ListRead
     ensures { λ r. ⌜ AnswersList broker (costRows (moneyOf (broker .portfolio))) (now (costs .entry)) r (now (costs .exit)) ⌝ }
 {
-    let x = rows::charged(broker);
+    let x = collected::charged(broker);
     let read = list_read(broker, cost_count(x), costs.len());
     store_costs(costs, 0, costs_in(x), written(read));
     read

@@ -3,8 +3,8 @@ use Rattle.walks.proofs.Walk.{closes, knows, under, world}
 use Rattle.walks.proofs.Store as Store
 use Rattle.reads.proofs.Lending as Lending
 use Rattle.reads.proofs.Public.{pending-orders as it}
-use Rattle.reads.proofs.rows.pending.Symbol as pending-Symbol
-use Rattle.reads.proofs.rows.pending.Met as pending-Met
+use Rattle.reads.proofs.collected.pending.Symbol as pending-Symbol
+use Rattle.reads.proofs.collected.pending.Met as pending-Met
 use Rattle.reads.proofs.uist.holding_count.Symbol as holding-count-Symbol
 use Rattle.reads.proofs.uist.holding_count.Met as holding-count-Met
 use Rattle.reads.proofs.uist.list_read.Symbol as list-read-Symbol
@@ -24,7 +24,7 @@ unfolding code.routine
 get-pending-orders-spec 𝓤 H 𝓜 𝓖 𝓡 =
     let w = world 𝓤 H 𝓜 𝓖 𝓡 in
     closes (Lending.contract it) w code.env name code.function (code.unfolded 𝓤 H 𝓜 𝓡) (Lending.runs it (under w code.env) (
-      knows (Lending.collects it) w code.env (it .collect) pending-Symbol.routine code.calls-reads·rows·pending (pending-Met.met 𝓤 H 𝓜 𝓖 𝓡),
+      knows (Lending.collects it) w code.env (it .collect) pending-Symbol.routine code.calls-reads·collected·pending (pending-Met.met 𝓤 H 𝓜 𝓖 𝓡),
       knows (Lending.counts it) w code.env (it .count) holding-count-Symbol.routine code.calls-reads·uist·holding-count (holding-count-Met.met 𝓤 H 𝓜 𝓖 𝓡),
       knows Lending.reads w code.env "reads::uist::list_read" list-read-Symbol.routine code.calls-reads·uist·list-read (list-read-Met.met 𝓤 H 𝓜 𝓖 𝓡),
       knows (Lending.rows-of it) w code.env (it .rows-in) holdings-in-Symbol.routine code.calls-reads·uist·holdings-in (holdings-in-Met.met 𝓤 H 𝓜 𝓖 𝓡),

@@ -9,8 +9,8 @@ use borrow.Author.Needs.{needs}
 use Rattle.rules.specs.Money.{Money}
 use Rattle.broker.specs.State.{moneyOf}
 use Rattle.reads.specs.Rows.{Keeps, holdingOf, positionRows, holdingRows}
-use Rattle.reads.specs.declared.rows.Holding.{Holding}
-use Rattle.reads.specs.declared.rows.HoldingList.{HoldingList}
+use Rattle.reads.specs.declared.collected.Holding.{Holding}
+use Rattle.reads.specs.declared.collected.HoldingList.{HoldingList}
 use Rattle.reads.proofs.Answering.{list-fits, list-answers}
 use Rattle.reads.proofs.Copying.{keeps-map, rows-map, Copies, copies-none, copies-one, copies-long, copies-all}
 use Rattle.reads.proofs.uist.get_positions.Statement.{statement}

@@ -3,8 +3,8 @@ use Rattle.walks.proofs.Walk.{closes, knows, under, world}
 use Rattle.walks.proofs.Store as Store
 use Rattle.reads.proofs.Lending as Lending
 use Rattle.reads.proofs.Public.{quotes as it}
-use Rattle.reads.proofs.rows.latest.Symbol as latest-Symbol
-use Rattle.reads.proofs.rows.latest.Met as latest-Met
+use Rattle.reads.proofs.collected.latest.Symbol as latest-Symbol
+use Rattle.reads.proofs.collected.latest.Met as latest-Met
 use Rattle.reads.proofs.uist.quote_count.Symbol as quote-count-Symbol
 use Rattle.reads.proofs.uist.quote_count.Met as quote-count-Met
 use Rattle.reads.proofs.uist.list_read.Symbol as list-read-Symbol
@@ -24,7 +24,7 @@ unfolding code.routine
 get-quotes-spec 𝓤 H 𝓜 𝓖 𝓡 =
     let w = world 𝓤 H 𝓜 𝓖 𝓡 in
     closes (Lending.contract it) w code.env name code.function (code.unfolded 𝓤 H 𝓜 𝓡) (Lending.runs it (under w code.env) (
-      knows (Lending.collects it) w code.env (it .collect) latest-Symbol.routine code.calls-reads·rows·latest (latest-Met.met 𝓤 H 𝓜 𝓖 𝓡),
+      knows (Lending.collects it) w code.env (it .collect) latest-Symbol.routine code.calls-reads·collected·latest (latest-Met.met 𝓤 H 𝓜 𝓖 𝓡),
       knows (Lending.counts it) w code.env (it .count) quote-count-Symbol.routine code.calls-reads·uist·quote-count (quote-count-Met.met 𝓤 H 𝓜 𝓖 𝓡),
       knows Lending.reads w code.env "reads::uist::list_read" list-read-Symbol.routine code.calls-reads·uist·list-read (list-read-Met.met 𝓤 H 𝓜 𝓖 𝓡),
       knows (Lending.rows-of it) w code.env (it .rows-in) quotes-in-Symbol.routine code.calls-reads·uist·quotes-in (quotes-in-Met.met 𝓤 H 𝓜 𝓖 𝓡),

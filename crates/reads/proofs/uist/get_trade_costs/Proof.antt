@@ -3,8 +3,8 @@ use Rattle.walks.proofs.Walk.{closes, knows, under, world}
 use Rattle.walks.proofs.Store as Store
 use Rattle.reads.proofs.Lending as Lending
 use Rattle.reads.proofs.Public.{costs as it}
-use Rattle.reads.proofs.rows.charged.Symbol as charged-Symbol
-use Rattle.reads.proofs.rows.charged.Met as charged-Met
+use Rattle.reads.proofs.collected.charged.Symbol as charged-Symbol
+use Rattle.reads.proofs.collected.charged.Met as charged-Met
 use Rattle.reads.proofs.uist.cost_count.Symbol as cost-count-Symbol
 use Rattle.reads.proofs.uist.cost_count.Met as cost-count-Met
 use Rattle.reads.proofs.uist.list_read.Symbol as list-read-Symbol
@@ -24,7 +24,7 @@ unfolding code.routine
 get-trade-costs-spec 𝓤 H 𝓜 𝓖 𝓡 =
     let w = world 𝓤 H 𝓜 𝓖 𝓡 in
     closes (Lending.contract it) w code.env name code.function (code.unfolded 𝓤 H 𝓜 𝓡) (Lending.runs it (under w code.env) (
-      knows (Lending.collects it) w code.env (it .collect) charged-Symbol.routine code.calls-reads·rows·charged (charged-Met.met 𝓤 H 𝓜 𝓖 𝓡),
+      knows (Lending.collects it) w code.env (it .collect) charged-Symbol.routine code.calls-reads·collected·charged (charged-Met.met 𝓤 H 𝓜 𝓖 𝓡),
       knows (Lending.counts it) w code.env (it .count) cost-count-Symbol.routine code.calls-reads·uist·cost-count (cost-count-Met.met 𝓤 H 𝓜 𝓖 𝓡),
       knows Lending.reads w code.env "reads::uist::list_read" list-read-Symbol.routine code.calls-reads·uist·list-read (list-read-Met.met 𝓤 H 𝓜 𝓖 𝓡),
       knows (Lending.rows-of it) w code.env (it .rows-in) costs-in-Symbol.routine code.calls-reads·uist·costs-in (costs-in-Met.met 𝓤 H 𝓜 𝓖 𝓡),

@@ -13,8 +13,8 @@ use Rattle.broker.specs.State.{pendingIf, pendingAt}
 use Rattle.broker.proofs.Symbols.{pending-at}
 use Rattle.reads.specs.Rows.{holdingOf, pendingRows}
 use Rattle.reads.proofs.Collecting.{Collects, collects-none, collects-row, collects-past, collects-all}
-use Rattle.reads.proofs.rows.pending.Statement.{statement}
-use Rattle.reads.proofs.rows.pending.Tie as tie
+use Rattle.reads.proofs.collected.pending.Statement.{statement}
+use Rattle.reads.proofs.collected.pending.Tie as tie
 
 module _ (awaited : List Bool) (l : List Float) (i : ℕ) (h : i < 256) where
   pending-is : (b : Bool) → getD awaited i false ≡ b → pendingAt awaited l i ≡ pendingIf b (getD l i nan)

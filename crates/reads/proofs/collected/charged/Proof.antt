@@ -9,8 +9,8 @@ use Rattle.costs.specs.declared.BrokerCost.{BrokerCost}
 use Rattle.costs.specs.declared.Cost.{Cost}
 use Rattle.costs.specs.declared.TradeCosts.{TradeCosts}
 use Rattle.reads.specs.Rows.{Keeps, costRows}
-use Rattle.reads.proofs.rows.charged.Statement.{statement}
-use Rattle.reads.proofs.rows.charged.Tie as tie
+use Rattle.reads.proofs.collected.charged.Statement.{statement}
+use Rattle.reads.proofs.collected.charged.Tie as tie
 
 take-taken : {A : Type 0} (n : ℕ) (l : List A) → take (length (take n l)) l ≡ take n l
 take-taken zero l = refl

@@ -12,8 +12,8 @@ use Rattle.market.specs.declared.table.Table.{Table}
 use Rattle.broker.proofs.Symbols.{latest-at}
 use Rattle.reads.specs.Rows.{quoteRows}
 use Rattle.reads.proofs.Collecting.{Collects, collects-none, collects-row, collects-past, collects-all}
-use Rattle.reads.proofs.rows.latest.Statement.{statement}
-use Rattle.reads.proofs.rows.latest.Tie as tie
+use Rattle.reads.proofs.collected.latest.Statement.{statement}
+use Rattle.reads.proofs.collected.latest.Tie as tie
 
 module _ (t : Table) (i : ℕ) (h : i < 256) where
   latest-is : (b : Bool) → getD (t .present) i false ≡ b → rowAt t i ≡ rowIf b (getD (t .rows) i noQuote)

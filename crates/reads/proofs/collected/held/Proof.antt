@@ -14,8 +14,8 @@ use Rattle.broker.proofs.Symbols.{held-at}
 use Rattle.broker.proofs.Selling.{is-held, not-held}
 use Rattle.reads.specs.Rows.{holdingOf, holdingRows}
 use Rattle.reads.proofs.Collecting.{Collects, collects-none, collects-row, collects-past, collects-all}
-use Rattle.reads.proofs.rows.held.Statement.{statement}
-use Rattle.reads.proofs.rows.held.Tie as tie
+use Rattle.reads.proofs.collected.held.Statement.{statement}
+use Rattle.reads.proofs.collected.held.Tie as tie
 
 module _ (l : List Float) (i : ℕ) (h : i < 256) where
   is-there : ne (getD l i nan) zero64 ≡ true → heldAt l i ≡ some (getD l i nan)

@@ -1,0 +1,417 @@
+"""Tries the recorded answers (docs/RECORDED.md): changes the code behind one rule after the other in a copy of the
+tree, runs the changed program with no proof (`rt try rehearse`) on crates/rehearse/stdin, and says where its answers
+first differ from crates/rehearse/stdout. Prints a table. Exit status 1 where a change passes, or where a text to be
+changed is not there exactly once. With words, only the changes whose rule or text has one of them."""
+
+import os
+import re
+import shutil
+import subprocess
+import sys
+import tempfile
+
+ROOT = os.path.dirname(os.path.dirname(os.path.abspath(__file__)))
+ANSWERS = os.path.join(ROOT, "crates", "rehearse", "stdout")
+
+# The rule's definition, by its file of specs/; the change in words; the case of crates/cases that refuses the same
+# change of the definition; the file below crates/; then old and new text, by turns.
+CHANGES = [
+    ("rules/Weights: planOf", "weights multiply the total value", "501, 502", "broker/src/weigh.rt",
+     "let total = self.get_liquidation_value();", "let total = self.get_total_value();"),
+    ("rules/Liquidation: salesFor", "exactly the liquidation value fails", "451", "broker/src/liquidate.rt",
+     "if amount > p.get_liquidation_value() {", "if amount >= p.get_liquidation_value() {"),
+
+    ("rules/Weights: planOf", "13 for a value below zero only", "514", "broker/src/weigh.rt",
+     "if total == 0.0 {", "if total < 0.0 {"),
+    ("rules/Weights: planOf", "buys listed first", "509", "broker/src/weigh.rt",
+     "side_onto(list, true, OrderList::none())",
+     "side_onto(list, false, OrderList::none())",
+     "side_onto(list, false, sales)",
+     "side_onto(list, true, sales)"),
+    ("rules/Weights: sharesFor", "a sale at the ask", "504", "broker/src/weigh.rt",
+     "-difference, q.bid, false", "-difference, q.ask, false"),
+    ("rules/Weights: sharesFor", "a buy at the bid", "501", "broker/src/weigh.rt",
+     "difference, q.ask, true", "difference, q.bid, true"),
+    ("rules/Weights: sharesFor", "costs of a buy for a sale", "504", "broker/src/weigh.rt",
+     "-difference, q.bid, false", "-difference, q.bid, true"),
+    ("rules/Weights: sharesFor", "the negative rounded down", "502", "broker/src/weigh.rt",
+     "-floats::floor(net.budget / net.price)", "floats::floor(-(net.budget / net.price))"),
+    ("rules/Weights: sharesAt", "a buy's budget before costs", "501", "broker/src/weigh.rt",
+     "        floats::floor(net.budget / net.price)", "        floats::floor(difference / net.price)"),
+    ("rules/Weights: sharesAt", "a buy's price before costs", "503", "broker/src/weigh.rt",
+     "        floats::floor(net.budget / net.price)", "        floats::floor(net.budget / q.ask)"),
+    ("rules/Weights: sharesAt", "rounded up", "501", "broker/src/weigh.rt",
+     "        floats::floor(net.budget / net.price)", "        floats::ceil(net.budget / net.price)"),
+    ("rules/Weights: orderFor", "NaN is a buy", "513", "broker/src/weigh.rt",
+     "if shares > 0.0 {", "if !(shares < 0.0) {"),
+    ("rules/Weights: orderFor", "no shares are listed", "509", "broker/src/weigh.rt",
+     "if shares == 0.0 {", "if shares == 0.5 {"),
+    ("rules/Weights: difference", "the position value is not taken off", "502", "broker/src/weigh.rt",
+     "total * w.weight - v;", "total * w.weight;"),
+    ("rules/Weights: wanted", "a zero difference is passed over", "510", "broker/src/weigh.rt",
+     "if difference == 0.0 {\n            break;",
+     "if difference == 0.0 {\n            i = i + 1;\n            continue;"),
+    ("rules/Weights: wanted", "an unquoted symbol ends the walk", "509", "broker/src/weigh.rt",
+     "if difference == 0.0 {\n            break;\n        }\n        if present {",
+     "if difference == 0.0 {\n            break;\n        }\n        if !present {\n            break;\n        }\n"
+     "        if present {"),
+
+    ("rules/Amounts: size", "a sale of negative shares", "502", "broker/src/weigh.rt",
+     "size = -shares;", "size = shares;"),
+    ("ledger/Ledger: weighAnswer", "an update answers the liquidation value", "515", "broker/src/update.rt",
+     "total_if(plan.found, portfolio.get_total_value())", "total_if(plan.found, portfolio.get_liquidation_value())"),
+
+    ("rules/Values: valueAt", "the ask for the bid", "441", "broker/src/value.rt",
+     "q.bid * holding", "q.ask * holding"),
+    ("rules/Values: valueAt", "0 without a quote", "441", "broker/src/value.rt",
+     "if !present {\n        return Amount::Missing;", "if !present {\n        return Amount::Of(0.0);"),
+    ("rules/Values: totalValue", "by descending symbol", "446", "broker/src/value.rt",
+     "let q = latest.rows[i];\n            let a = value_at(latest.present[i], q, funds.holding[i]);\n"
+     "            sum = added(sum, a);",
+     "let k = 255 - i;\n            let q = latest.rows[k];\n"
+     "            let a = value_at(latest.present[k], q, funds.holding[k]);\n            sum = added(sum, a);"),
+    ("rules/Values: totalValue", "the values first, then cash", "446", "broker/src/value.rt",
+     "let mut sum = funds.cash;\n        let mut i: usize = 0;\n        while i < 256 {\n"
+     "            let q = latest.rows[i];\n            let a = value_at(latest.present[i], q, funds.holding[i]);\n"
+     "            sum = added(sum, a);\n            i = i + 1;\n        }\n        sum",
+     "let mut sum = 0.0;\n        let mut i: usize = 0;\n        while i < 256 {\n"
+     "            let q = latest.rows[i];\n            let a = value_at(latest.present[i], q, funds.holding[i]);\n"
+     "            sum = added(sum, a);\n            i = i + 1;\n        }\n        funds.cash + sum"),
+    ("rules/Values: symbols", "255 is left out of the total", "442", "broker/src/value.rt",
+     "while i < 256 {\n            let q = latest.rows[i];\n"
+     "            let a = value_at(latest.present[i], q, funds.holding[i]);\n            sum = added(sum, a);",
+     "while i < 255 {\n            let q = latest.rows[i];\n"
+     "            let a = value_at(latest.present[i], q, funds.holding[i]);\n            sum = added(sum, a);"),
+    ("rules/Values: addValue", "costs act on the total", "442", "broker/src/value.rt",
+     "sum = added(sum, a);", "sum = added_sale(sum, self.costs, a);"),
+    ("rules/Values: liquidationValue", "by descending symbol", "447, 448", "broker/src/value.rt",
+     "let q = latest.rows[i];\n            let a = value_at(latest.present[i], q, funds.holding[i]);\n"
+     "            sum = added_sale(sum, costs, a);",
+     "let k = 255 - i;\n            let q = latest.rows[k];\n"
+     "            let a = value_at(latest.present[k], q, funds.holding[k]);\n"
+     "            sum = added_sale(sum, costs, a);"),
+    ("rules/Values: symbols", "255 is left out of the liquidation value", "443", "broker/src/value.rt",
+     "while i < 256 {\n            let q = latest.rows[i];\n"
+     "            let a = value_at(latest.present[i], q, funds.holding[i]);\n"
+     "            sum = added_sale(sum, costs, a);",
+     "while i < 255 {\n            let q = latest.rows[i];\n"
+     "            let a = value_at(latest.present[i], q, funds.holding[i]);\n"
+     "            sum = added_sale(sum, costs, a);"),
+    ("rules/Values: addSale", "costs are left out", "443", "broker/src/value.rt", "sum + net.budget", "sum + x"),
+    ("rules/Values: addSale", "the price for the budget", "443", "broker/src/value.rt",
+     "sum + net.budget", "sum + net.price"),
+
+    ("rules/Liquidation: walk", "a value at the rest is not sold whole", "451, 454", "broker/src/liquidate.rt",
+     "if !(v <= rest) {", "if !(v < rest) {"),
+    ("rules/Liquidation: walk", "the rest stays as it is", "451", "broker/src/liquidate.rt",
+     "rest = rest - v;", "rest = rest - 0.0;"),
+    ("rules/Liquidation: walk", "255 is left out", "450", "broker/src/liquidate.rt",
+     "if i >= 256 {", "if i >= 255 {"),
+    ("rules/Liquidation: walk", "0 is left out", "450", "broker/src/liquidate.rt",
+     "let mut i: usize = 0;\n    let part = loop {", "let mut i: usize = 1;\n    let part = loop {"),
+    ("rules/Liquidation: selling", "the rest is sold, not the holding", "451", "broker/src/liquidate.rt",
+     "Order::market_sell(i as u32, holding)", "Order::market_sell(i as u32, rest)"),
+    ("rules/Liquidation: lastSale", "the bid itself", "453", "broker/src/liquidate.rt",
+     "rest / floats::ceil(q.bid)", "rest / q.bid"),
+    ("rules/Liquidation: lastSale", "the bid rounded down", "453", "broker/src/liquidate.rt",
+     "rest / floats::ceil(q.bid)", "rest / floats::floor(q.bid)"),
+    ("rules/Liquidation: lastSale", "the ask rounded up", "453", "broker/src/liquidate.rt",
+     "rest / floats::ceil(q.bid)", "rest / floats::ceil(q.ask)"),
+    ("rules/Liquidation: lastSale", "the rest is kept", "453", "broker/src/liquidate.rt",
+     "rest: 0.0,", "rest: rest,"),
+    ("rules/Liquidation: lastSale", "a position without a quote spends the rest", "459", "broker/src/liquidate.rt",
+     "if present {\n        let shares", "if true {\n        let shares"),
+    ("rules/Liquidation: ifSpent", "a rest below zero passes", "459", "broker/src/liquidate.rt",
+     "sold.rest == 0.0", "sold.rest <= 0.0"),
+    ("rules/Liquidation: salesFor", "above the total value for the liquidation value", "460", "broker/src/liquidate.rt",
+     "if amount > p.get_liquidation_value() {", "if amount > p.get_total_value() {"),
+    ("rules/Liquidation: salesFor", "held cash is taken off the amount first", "456", "broker/src/liquidate.rt",
+     "let sold = sell_positions(p, amount);", "let sold = sell_positions(p, amount - p.funds.cash);"),
+    ("rules/Liquidation: debitedBy", "failing debits nothing", "461, 463", "broker/src/liquidate.rt",
+     "account::debited(funds.cash, amount)", "account::debited(funds.cash, 0.0)"),
+    ("rules/Liquidation: debitedBy", "failing debits more than cash", "461, 464", "broker/src/liquidate.rt",
+     "account::debited(funds.cash, amount)", "account::force_debited(funds.cash, amount)"),
+    ("rules/Liquidation: buffer", "100.0 for 1,000.0", "470", "broker/src/state.rt",
+     "BUFFER: f64 = 1000.0", "BUFFER: f64 = 100.0"),
+    ("ledger/Ledger: shortfall", "the shortfall without the 1,000.0", "470", "broker/src/check.rt",
+     "self.liquidate(-funds.cash + UistBroker::BUFFER)", "self.liquidate(-funds.cash)"),
+    ("ledger/Ledger: rescuing", "cash 0 is a shortfall", "469", "broker/src/check.rt",
+     "if !(funds.cash < 0.0) {", "if !(funds.cash <= 0.0) {"),
+
+    ("rules/Money: settled", "a buy takes its shares from the holding", "421", "broker/src/check.rt",
+     "holding: holding + t.quantity", "holding: holding - t.quantity"),
+    ("rules/Money: settled", "a sale adds its shares to the holding", "425", "broker/src/check.rt",
+     "holding: holding - t.quantity", "holding: holding + t.quantity"),
+    ("rules/Money: taking", "a buy adds its shares to pending", "421", "broker/src/check.rt",
+     "let left = pending - t.quantity;", "let left = pending + t.quantity;"),
+    ("rules/Money: taking", "a sale takes its shares off pending", "425", "broker/src/check.rt",
+     "let left = pending + t.quantity;", "let left = pending - t.quantity;"),
+    ("rules/Money: unlessZero", "pending stays at zero after a buy", "421", "broker/src/check.rt",
+     "holding: holding + t.quantity,\n                pending: left,\n                awaited: left != 0.0,",
+     "holding: holding + t.quantity,\n                pending: left,\n                awaited: true,"),
+    ("rules/Money: unlessZero", "pending stays at zero after a sale", "425", "broker/src/check.rt",
+     "holding: holding - t.quantity,\n                pending: left,\n                awaited: left != 0.0,",
+     "holding: holding - t.quantity,\n                pending: left,\n                awaited: true,"),
+    ("rules/Money: paid", "a buy adds its value to cash", "421", "broker/src/check.rt",
+     "account::force_debited(x.cash, t.value)", "account::credited(x.cash, t.value)"),
+    ("rules/Money: paid", "a sale takes its value from cash", "425", "broker/src/check.rt",
+     "account::credited(x.cash, t.value)", "account::force_debited(x.cash, t.value)"),
+    ("rules/Money: paid", "a buy above cash takes nothing", "423", "broker/src/check.rt",
+     "account::force_debited(x.cash, t.value)", "account::debited(x.cash, t.value)"),
+    ("rules/Money: effect", "a sale raises pending", "414", "broker/src/send.rt",
+     "if awaited { pending + -shares } else { -shares }", "if awaited { pending + shares } else { -shares }"),
+    ("rules/Money: effect", "a first sale raises pending", "413", "broker/src/send.rt",
+     "if awaited { pending + -shares } else { -shares }", "if awaited { pending + -shares } else { shares }"),
+    ("rules/Money: effect", "a buy lowers pending", "412", "broker/src/send.rt",
+     "if awaited { pending + shares } else { shares }", "if awaited { pending - shares } else { shares }"),
+    ("rules/Money: expected", "a sum of zero is removed by a send", "415, 416", "broker/src/send.rt",
+     "expected[at] = true;", "expected[at] = pending[at] != 0.0;"),
+    ("rules/Money: fetched", "the latest quotes of other symbols are dropped", "429", "broker/src/check.rt",
+     "let mut l = latest;", "let mut l = fetched;"),
+    ("rules/Money: fetched", "a row of 255 is left out", "429", "broker/src/check.rt",
+     "while i < 256 {\n        if fetched.present[i] {", "while i < 255 {\n        if fetched.present[i] {"),
+    ("rules/Money: fetched", "the tradable rows become latest", "467, 468", "broker/src/check.rt",
+     "merge(portfolio.latest, rows)", "merge(portfolio.latest, tradable.table())"),
+    ("ledger/Ledger: booking", "trades at the fetched rows", "467", "broker/src/check.rt",
+     "exchange.tick(tradable)", "exchange.tick(fetched)"),
+    ("rules/Money: failedIf", "Ready after a failed liquidation", "410, 471", "broker/src/check.rt",
+     "funds.failed = true;", "funds.failed = false;"),
+    ("ledger/Ledger: callTests", "a Failed broker takes deposits", "472", "broker/src/cash.rt",
+     "        if funds.failed {\n            return CashMoved {\n                broker: self,\n"
+     "                event: BrokerCashEvent::OperationFailure(cash),\n            };\n        }\n"
+     "        let moved = account::credited",
+     "        let moved = account::credited"),
+    ("ledger/Ledger: callTests", "a Failed broker pays withdrawals", "472", "broker/src/cash.rt",
+     "        if funds.failed {\n            return CashMoved {\n                broker: self,\n"
+     "                event: BrokerCashEvent::OperationFailure(cash),\n            };\n        }\n"
+     "        let moved = account::debited",
+     "        let moved = account::debited"),
+    ("ledger/Ledger: callTests", "a Failed broker refuses liquidations", "472", "broker/src/liquidate.rt",
+     "let x = self.liquidate(cash);",
+     "let portfolio = self.portfolio;\n        let funds = portfolio.funds;\n        if funds.failed {\n"
+     "            return CashMoved {\n                broker: self,\n"
+     "                event: BrokerCashEvent::OperationFailure(cash),\n            };\n        }\n"
+     "        let x = self.liquidate(cash);"),
+    ("ledger/Ledger: callTests", "a withdrawal of all of cash fails", "474", "account/src/value.rt",
+     "if value > a.cash {", "if value >= a.cash {"),
+    ("ledger/Ledger: acting", "a deposit less cash", "476", "account/src/value.rt",
+     "cash: value + a.cash", "cash: value - a.cash"),
+
+    ("rules/Sends: poor", "the bid for the ask", "401", "broker/src/send.rt",
+     "!(cash > o.shares * q.ask)", "!(cash > o.shares * q.bid)"),
+    ("rules/Sends: poor", "cash that is just enough passes", "401", "broker/src/send.rt",
+     "!(cash > o.shares * q.ask)", "!(cash >= o.shares * q.ask)"),
+    ("rules/Sends: short", "a sale of all that is held fails", "403", "broker/src/send.rt",
+     "!(holding >= o.shares)", "!(holding > o.shares)"),
+    ("rules/Sends: short", "a sale of an unheld symbol fails", "404", "broker/src/send.rt",
+     "if holding == 0.0 {\n        return false;", "if holding == 0.0 {\n        return true;"),
+    ("rules/Sends: isMarket", "a limit buy is sent", "407", "broker/src/send.rt",
+     "OrderType::LimitBuy => false,\n        OrderType::StopSell => false,\n        OrderType::StopBuy => false,\n"
+     "    }\n}\n\n// A buy that cash",
+     "OrderType::LimitBuy => true,\n        OrderType::StopSell => false,\n        OrderType::StopBuy => false,\n"
+     "    }\n}\n\n// A buy that cash"),
+    ("rules/Sends: sendTestsAt", "a Failed broker takes sends", "408", "broker/src/send.rt",
+     "    if failed {\n        return event(o, 4);\n    }\n", ""),
+    ("rules/Sends: sendTestsAt", "5 comes before 4", "408", "broker/src/send.rt",
+     "    if failed {\n        return event(o, 4);\n    }\n    let Latest::At(q) = latest_of(x) else {\n"
+     "        return event(o, 5);\n    };\n",
+     "    let Latest::At(q) = latest_of(x) else {\n        return event(o, 5);\n    };\n    if failed {\n"
+     "        return event(o, 4);\n    }\n"),
+    ("rules/Sends: sendTestsAt", "6 comes before 5", "406", "broker/src/send.rt",
+     "    let Latest::At(q) = latest_of(x) else {\n        return event(o, 5);\n    };\n    if !is_market(o) {\n"
+     "        return event(o, 6);\n    }\n",
+     "    if !is_market(o) {\n        return event(o, 6);\n    }\n    let Latest::At(q) = latest_of(x) else {\n"
+     "        return event(o, 5);\n    };\n"),
+    ("rules/Sends: sendTestsAt", "7 comes before 6", "407", "broker/src/send.rt",
+     "    if !is_market(o) {\n        return event(o, 6);\n    }\n    if is_poor(o, cash, q) {\n"
+     "        return event(o, 7);\n    }\n",
+     "    if is_poor(o, cash, q) {\n        return event(o, 7);\n    }\n    if !is_market(o) {\n"
+     "        return event(o, 6);\n    }\n"),
+    ("rules/Sends: sendTestsAt", "9 comes before 7", "402", "broker/src/send.rt",
+     "    if is_poor(o, cash, q) {\n        return event(o, 7);\n    }\n",
+     "    if o.shares == 0.0 {\n        return event(o, 9);\n    }\n    if is_poor(o, cash, q) {\n"
+     "        return event(o, 7);\n    }\n"),
+    ("rules/Sends: sendTestsAt", "9 comes before 8", "405", "broker/src/send.rt",
+     "    if is_short(o, x.holding) {\n        return event(o, 8);\n    }\n",
+     "    if o.shares == 0.0 {\n        return event(o, 9);\n    }\n    if is_short(o, x.holding) {\n"
+     "        return event(o, 8);\n    }\n"),
+    ("rules/Sends: sendTestsAt", "zero shares are taken", "402, 404", "broker/src/send.rt",
+     "    if o.shares == 0.0 {\n        return event(o, 9);\n    }\n", ""),
+    ("rules/Sends: sendTests", "10 and 11 come before 9", "409", "broker/src/send.rt",
+     "    if o.shares == 0.0 {\n        return event(o, 9);\n    }\n",
+     "    let room = counts.room_fault();\n    if room != 0 {\n        return event(o, room);\n    }\n"
+     "    if o.shares == 0.0 {\n        return event(o, 9);\n    }\n"),
+    ("rules/Sends: sendTests", "4 comes before 2", "408", "broker/src/send.rt",
+     "    let fault = o.fault();\n    if fault != 0 {",
+     "    if failed {\n        return event(o, 4);\n    }\n    let fault = o.fault();\n    if fault != 0 {"),
+    ("ledger/Ledger: roomTests", "11 comes before 10", "419", "exchange/src/insert.rt",
+     "        if self.taken == self.room {\n            return 10;\n        }\n        if self.resting > 1024 {",
+     "        if self.resting + self.waits == 1024 {\n            return 11;\n        }\n"
+     "        if self.taken == self.room {\n            return 10;\n        }\n        if self.resting > 1024 {"),
+
+    ("rules/Basis: cleared", "quantity zero keeps the value", "482", "lent/src/folds.rt",
+     "quantity: quantity,\n            value: 0.0,", "quantity: quantity,\n            value: value,"),
+    ("rules/Basis: basisStep", "a sale adds its value", "481", "lent/src/folds.rt",
+     "b.value - t.value", "b.value + t.value"),
+    ("rules/Basis: basisStep", "a sale adds its quantity", "481", "lent/src/folds.rt",
+     "b.quantity - t.quantity", "b.quantity + t.quantity"),
+    ("rules/Basis: basisStep", "every symbol's trades count", "481", "lent/src/folds.rt",
+     "if t.symbol != symbol {", "if t.symbol > 255 {"),
+    ("rules/Basis: basisOf", "the value for the quotient", "481", "lent/src/uist.rt",
+     "b.value / b.quantity", "b.value"),
+    ("rules/Basis: basisOf", "a basis at quantity zero", "482", "lent/src/uist.rt",
+     "if b.quantity == 0.0 {\n        return AmountRead {\n            amount: Amount::Missing,",
+     "if b.quantity == 0.0 {\n        return AmountRead {\n            amount: Amount::Of(0.0),"),
+    ("rules/Basis: turnover", "from the newest row back", "702", "lent/src/folds.rt",
+     "let t = log[i];\n        sum = sum + value_of(t);",
+     "let k = n - 1 - i;\n        let t = log[k];\n        sum = sum + value_of(t);"),
+    ("rules/Basis: addTurnover", "quantities for values", "701", "lent/src/folds.rt",
+     "    t.value\n}", "    t.quantity\n}"),
+
+    ("market/Trades: meetsKind", "limit sell and stop buy at their price rest", "306, 308", "market/src/trade.rt",
+     "o.price <= at", "o.price < at"),
+    ("market/Trades: meetsKind", "limit buy and stop sell at their price rest", "304, 311", "market/src/trade.rt",
+     "o.price >= at", "o.price > at"),
+    ("market/Trades: meetsKind", "limit sell and stop buy rest without a price", "314", "market/src/trade.rt",
+     "{ o.price <= at } else { true }", "{ o.price <= at } else { false }"),
+    ("market/Trades: meetsKind", "limit buy and stop sell trade without a price", "314", "market/src/trade.rt",
+     "{ o.price >= at } else { false }", "{ o.price >= at } else { true }"),
+    ("market/Trades: meetsKind", "the other side's price", "305, 307, 308, 311", "market/src/trade.rt",
+     "if o.is_sell() { q.bid } else { q.ask }", "if o.is_sell() { q.ask } else { q.bid }"),
+    ("market/Trades: meetsKind", "a limit sell waits for a fall", "307, 314", "market/src/trade.rt",
+     "OrderType::LimitSell => true,", "OrderType::LimitSell => false,"),
+    ("market/Trades: meetsKind", "a stop buy waits for a fall", "309, 310", "market/src/trade.rt",
+     "OrderType::StopBuy => true,", "OrderType::StopBuy => false,"),
+    ("market/Trades: meetsKind", "a market order waits for its price", "303", "market/src/trade.rt",
+     "        OrderType::MarketSell => true,\n        OrderType::MarketBuy => true,",
+     "        OrderType::MarketSell => true,\n        OrderType::MarketBuy => false,"),
+    ("market/Trades: tradeOf", "a sell trades at the ask", "302", "market/src/trade.rt",
+     "value: q.bid * o.shares", "value: q.ask * o.shares"),
+    ("market/Trades: tradeOf", "a buy trades at the bid", "301", "market/src/trade.rt",
+     "value: q.ask * o.shares", "value: q.bid * o.shares"),
+    ("market/Trades: tradeOf", "no date", "301", "market/src/trade.rt", "let date = q.date;", "let date: i64 = 0;"),
+    ("market/Trades: tradeOn", "an order without a row trades", "315", "market/src/trade.rt",
+     "if !present {\n        return Fill::Rests;\n    }\n    if !meets", "if !meets"),
+
+    ("market/Quotes: isPrice", "zero is a price", "203", "market/src/quote.rt",
+     "{ x > 0.0 } else { false }", "{ x >= 0.0 } else { false }"),
+    ("market/Quotes: isPrice", "an infinity is a price", "203", "market/src/quote.rt",
+     "if floats::finite(x) { x > 0.0 } else { false }", "x > 0.0"),
+    ("market/Quotes: rowTests", "the ask is not tested", "203", "market/src/quote.rt",
+     "        if !is_price(self.ask) {\n            return 2;\n        }\n", ""),
+    ("market/Quotes: rowTests", "3 comes before 2", "205", "market/src/quote.rt",
+     "        if !is_price(self.bid) {",
+     "        if self.symbol < least {\n            return 3;\n        }\n        if !is_price(self.bid) {"),
+    ("market/Quotes: rowTests", "2 comes before 1", "205", "market/src/quote.rt",
+     "        if self.symbol > 255 {",
+     "        if !is_price(self.bid) {\n            return 2;\n        }\n        if self.symbol > 255 {"),
+    ("market/Quotes: tableTests", "a symbol may come twice", "204", "market/src/table.rt",
+     "least = symbol + 1;", "least = symbol;"),
+    ("ledger/Ledger: checkTests", "the fetched table's number first", "475", "broker/src/check.rt",
+     "if tradable != 0 { tradable } else { fetched }", "if fetched != 0 { fetched } else { tradable }"),
+
+    ("market/Weights: weightTests", "a NaN weight passes", "209", "market/src/weight.rt",
+     "if !floats::finite(self.weight) {", "if self.symbol > 255 {"),
+    ("market/Weights: weightRows", "a symbol may come twice", "209", "broker/src/weigh.rt",
+     "least = w.symbol + 1;", "least = w.symbol;"),
+    ("market/Orders: orderTests", "the price is not tested", "210", "market/src/order.rt",
+     "if !floats::finite(self.price) {", "if self.symbol > 255 {"),
+
+    ("costs/Costs: tradeImpact", "per share lowers a buy price", "103", "costs/src/lib.rt",
+     "net.price = net.price + val;", "net.price = net.price - val;"),
+    ("costs/Costs: tradeImpact", "per share raises a sale price", "104", "costs/src/lib.rt",
+     "net.price = net.price - val;", "net.price = net.price + val;"),
+    ("costs/Costs: tradeImpact", "a part p leaves p", "105", "costs/src/lib.rt",
+     "net.budget * (1.0 - pct)", "net.budget * pct"),
+    ("costs/Costs: tradeImpact", "flat raises the budget", "107", "costs/src/lib.rt",
+     "net.budget = net.budget - val;", "net.budget = net.budget + val;"),
+    ("costs/Costs: tradeImpactTotal", "in reverse", "108, 109", "costs/src/lib.rt",
+     "let c = costs.list[i];\n        let cost = c.cost;\n        net = cost.trade_impact(net, is_buy);",
+     "let k = n - 1 - i;\n        let c = costs.list[k];\n        let cost = c.cost;\n"
+     "        net = cost.trade_impact(net, is_buy);"),
+    ("costs/Costs: calc", "per share times value", "112", "costs/src/lib.rt", "cost * quantity,", "cost * value,"),
+    ("costs/Costs: calc", "a part of the quantity", "112", "costs/src/lib.rt", "value * pct,", "quantity * pct,"),
+    ("costs/Costs: calc", "flat times quantity", "112", "costs/src/lib.rt",
+     "BrokerCost::Flat(val) => val,", "BrokerCost::Flat(val) => val * quantity,"),
+    ("costs/Costs: tradeCosts", "in reverse", "113", "costs/src/lib.rt",
+     "let c = costs.list[i];\n        let cost = c.cost;\n        sum = sum + cost.calc(quantity, value);",
+     "let k = n - 1 - i;\n        let c = costs.list[k];\n        let cost = c.cost;\n"
+     "        sum = sum + cost.calc(quantity, value);"),
+    ("costs/Costs: isFinite", "a flat cost is not tested", "115", "broker/src/build.rt",
+     "BrokerCost::Flat(x) => floats::finite(x),", "BrokerCost::Flat(x) => true,"),
+    ("costs/Kept: withCost", "the newest cost stands first", "114", "costs/src/lib.rt",
+     "self.list[count] = Cost { cost: cost };", "self.list[0] = Cost { cost: cost };"),
+
+    ("costs/Kept: costsOf", "the sixteenth cost is left out", "116", "costs/src/lib.rt",
+     "if count < 16 { count } else { 16 }", "if count < 15 { count } else { 15 }"),
+    ("broker/Build: costTests", "16 costs draw 14", "117", "broker/src/build.rt",
+     "if costs.count > 16 {", "if costs.count >= 16 {"),
+
+    ("floats/Whole: floorOf", "towards zero below zero", "101", "floats/src/lib.rt",
+     "return -over(-x);", "return -under(-x);"),
+    ("floats/Whole: ceilOf", "away from zero below zero", "102", "floats/src/lib.rt",
+     "return -under(-x);", "return -over(-x);"),
+    ("floats/Whole: ceilOf", "a whole number moves up", "102", "floats/src/lib.rt", "if t < a {", "if t <= a {"),
+    ("floats/Whole: floorOf", "to the nearest", "101", "floats/src/lib.rt",
+     "std::num::truncating_f64_to_u64(a) as f64", "std::num::truncating_f64_to_u64(a + 0.5) as f64"),
+]
+
+
+def edited(crates, change):
+    """Makes a change in a copy; false where its old text is not there exactly once."""
+    path = os.path.join(crates, change[3])
+    with open(path, encoding="utf-8") as source:
+        text = source.read()
+    for old, new in zip(change[4::2], change[5::2]):
+        if text.count(old) != 1:
+            return False
+        text = text.replace(old, new)
+    with open(path, "w", encoding="utf-8") as source:
+        source.write(text)
+    return True
+
+
+def difference(said):
+    """Where the answers first differ, by what `rt try` says: the line of stdout, and the line of stdin it answers."""
+    at = re.search(r"at byte (\d+)", said)
+    if at is None:
+        return None
+    with open(ANSWERS, "rb") as answers:
+        lines = answers.read()[:int(at.group(1)) + 1].split(b"\n")
+    own = [line.split()[0].decode() for line in lines if line[:1].isdigit()]
+    return "%d (stdin %s)" % (len(lines), own[-1] if own else "1")
+
+
+def tried(change):
+    """What becomes of a change: where it shows, or what is wrong with it."""
+    with tempfile.TemporaryDirectory() as copy:
+        crates = os.path.join(copy, "crates")
+        shutil.copytree(os.path.join(ROOT, "crates"), crates)
+        shutil.copy(os.path.join(ROOT, "crates.txt"), copy)
+        if not edited(crates, change):
+            return None, "THE OLD TEXT IS NOT THERE ONCE"
+        run = subprocess.run(["rt", "try", "rehearse"], cwd=copy, capture_output=True, text=True)
+    said = run.stdout + run.stderr
+    if run.returncode == 0:
+        return None, "PASSES"
+    place = difference(said)
+    return place, place or "DOES NOT RUN: " + said.strip().split("\n")[0]
+
+
+def main():
+    words = sys.argv[1:]
+    print("| rule | change of the code | first line of stdout that differs | case |\n|---|---|---|---|")
+    bad = 0
+    for change in CHANGES:
+        if words and not any(word in change[0] + " " + change[1] for word in words):
+            continue
+        place, shown = tried(change)
+        bad += place is None
+        file, rule = change[0].split(": ")
+        print("| `%s` (%s) | %s | %s | %s |" % (rule, file, change[1], shown, change[2]), flush=True)
+    print("\n%d changes did not show" % bad if bad else "\nevery change shows")
+    sys.exit(1 if bad else 0)
+
+
+if __name__ == "__main__":
+    main()
