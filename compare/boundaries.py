@@ -4,6 +4,7 @@ stands on a boundary or on the float beside it."""
 import amounts
 import floats
 from play import Play
+from player import LIST_READS
 
 SIDES = ["get_total_value", "get_liquidation_value", "get_cash_balance", "turnover"]
 
@@ -257,6 +258,24 @@ def added_numbers(rng, play):
     play.read("turnover")
 
 
+def own_lists(rng, play):
+    """The broker's lists with just the room that they need, then one of them short of a row."""
+    rows = [row(s, 10.0) for s in (0, 3, 255)]
+    costs = [("per_share", 0.5), ("pct_of_value", 0.01), ("flat", 1.0)] * 5 + [("flat", 2.0)]
+    start(play, 1e4, rng.choice([rows, []]), costs[:rng.choice([0, 1, 3, 16])])
+    for symbol, shares in ((255, -2.0), (3, 4.0), (0, 0.5)):
+        hold(play, symbol, shares, rows)
+    play.order("send", ("ms", 3, rng.choice([4.0, 1.0]), None))
+    for verb in LIST_READS:
+        play.list_read(verb, play.model.rows(verb))
+    sell_all(play, rows[:2])
+    for verb in LIST_READS:
+        play.list_read(verb, play.model.rows(verb) + rng.choice([0, 1]))
+    full = [verb for verb in LIST_READS if play.model.rows(verb)]
+    verb = rng.choice(full)
+    play.list_read(verb, play.model.rows(verb) - 1)
+
+
 def no_value(rng, play):
     """13: a liquidation value of zero, of a fresh broker or with holdings."""
     rows = [row(3, 10.0)]
@@ -280,13 +299,14 @@ def unquoted_stop(rng, play):
     play.check([], rows)
     play.check([row(s, 10.0) for s in sorted((3, hidden))], rows)
     play.read("get_position_value", hidden)
+    play.read("get_position_liquidation_value", hidden)
     play.amount("liquidate", rng.choice([20.0, 40.0, 0.0, -1.0, 39.0, 1000.0, floats.LEAST]))
     play.order("send", ("ms", hidden, 1.0, None))
     sell_all(play, rows)
 
 
 TEMPLATES = [examples, cash_and_cost, holding_and_shares, prices_met, weights_zero, back_to_zero, pending_zero,
-             withdrawals, liquidations, shortfalls, booking_order, added_numbers, no_value, unquoted_stop]
+             withdrawals, liquidations, shortfalls, booking_order, added_numbers, own_lists, no_value, unquoted_stop]
 
 
 def scenario(rng):

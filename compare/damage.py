@@ -72,7 +72,8 @@ def stretched(rng):
         ["check"] + rows + ["/"], ["check", "/"] + rows, ["new", "4"] + costs + ["/"], ["new", "4", "/"] + rows,
         ["send_list", "1024"] + orders, ["send_list", str(1024 + more)], ["walk", "1024"] + weights,
         ["walk", str(1024 + more)], ["update", "1024", "/", "/"] + weights, ["update", "1024"] + rows + ["/", "/"],
-        ["update", str(1024 + more), "/", "/"], ["state", " " * (LINE - 7 + more)], ["x" * rng.choice([LINE, 70000])]])
+        ["update", str(1024 + more), "/", "/"], ["get_quotes", str(1024 + more)], ["state", " " * (LINE - 7 + more)],
+        ["x" * rng.choice([LINE, 70000])]])
     return " ".join(line).encode()
 
 

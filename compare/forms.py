@@ -19,7 +19,8 @@ WORDS = {
 FORMS = {
     b"deposit": ["float"], b"withdraw": ["float"], b"liquidate": ["float"], b"send": ["order"],
     b"insert": ["order"], b"delete": ["whole"], b"get_quote": ["symbol"], b"get_position_qty": ["symbol"],
-    b"get_pending_order": ["symbol"], b"get_position_value": ["symbol"], b"cost_basis": ["symbol"],
+    b"get_pending_order": ["symbol"], b"get_position_value": ["symbol"],
+    b"get_position_liquidation_value": ["symbol"], b"cost_basis": ["symbol"],
     b"get_total_value": [], b"get_liquidation_value": [], b"get_cash_balance": [], b"turnover": [],
     b"get_broker_state": [], b"executed_trade_count": [], b"trade_impact_total": ["float", "float", "side"],
     b"calculate_trade_costs": ["float", "float"], b"floor": ["float"], b"ceil": ["float"], b"state": [],
@@ -33,6 +34,11 @@ LISTS = {
     b"check": (None, [("quote", 512), ("quote", 512)]),
     b"walk": ("room", [("weight", 512)]),
     b"update": ("room", [("quote", 512), ("quote", 512), ("weight", 512)]),
+    b"get_positions": ("room", []),
+    b"get_quotes": ("room", []),
+    b"get_holdings": ("room", []),
+    b"get_pending_orders": ("room", []),
+    b"get_trade_costs": ("room", []),
 }
 LINE = 65535
 ROOM = 1024

@@ -129,6 +129,16 @@ class Model:
                 sum_ += impact(self.costs, value, 0.0, False)[0]
         return sum_
 
+    def rows(self, verb):
+        """How many rows a read of one of the broker's lists has."""
+        return len({"get_positions": self.held, "get_holdings": self.held, "get_pending_orders": self.pending,
+                    "get_quotes": self.latest, "get_trade_costs": self.costs}[verb])
+
+    def list_read(self, verb, room):
+        if self.dead:
+            return 16
+        return 15 if room < self.rows(verb) else 0
+
     def cash_fault(self, amount, heeds_failed=True):
         if self.dead:
             return 16

@@ -91,6 +91,9 @@ class Play:
         else:
             self.write("%s %d" % (verb, symbol), [number or (1 if symbol > 255 else 0)])
 
+    def list_read(self, verb, room):
+        self.write("%s %d" % (verb, room), [self.model.list_read(verb, room)])
+
     def cost_call(self, verb, one, other, side=None):
         number = 16 if self.model.dead else 0
         if not (floats.finite(one) and floats.finite(other)):

@@ -7,7 +7,9 @@ from market import Market
 from play import Play
 
 KINDS = ["mb", "ms", "lb", "ls", "sb", "ss"]
-SYMBOL_READS = ["get_quote", "get_position_qty", "get_pending_order", "get_position_value", "cost_basis"]
+SYMBOL_READS = ["get_quote", "get_position_qty", "get_pending_order", "get_position_value",
+                "get_position_liquidation_value", "cost_basis"]
+LIST_READS = ["get_positions", "get_quotes", "get_holdings", "get_pending_orders", "get_trade_costs"]
 PLAIN_READS = ["get_total_value", "get_liquidation_value", "get_cash_balance", "turnover",
                "get_broker_state", "executed_trade_count"]
 
@@ -268,8 +270,12 @@ class Player:
 
     def read(self):
         rng = self.rng
-        if rng.random() < 0.5:
+        choice = rng.random()
+        if choice < 0.35:
             self.play.read(rng.choice(PLAIN_READS))
+        elif choice < 0.65:
+            verb = rng.choice(LIST_READS)
+            self.play.list_read(verb, self.model.rows(verb) + rng.choice([0, 0, 1, 20]))
         else:
             symbol = rng.choice(self.mix.symbols + self.mix.hidden + [rng.randint(0, 255)])
             self.play.read(rng.choice(SYMBOL_READS), symbol)
@@ -336,6 +342,11 @@ class Player:
         return rng.choice([(kind, 256, shares, price), (kind, symbol, self.bad(), price),
                            (kind, symbol, shares, self.bad()), (kind, 4294967295, self.bad(), price)])
 
+    def cramped_read(self):
+        """A read to a list that is short of one row, or of all."""
+        verb = self.rng.choice(LIST_READS)
+        self.play.list_read(verb, self.rng.choice([0, max(self.model.rows(verb) - 1, 0)]))
+
     def faulty(self):
         """A call that draws an added number, 5, 6 or 13, or is near to it."""
         rng, play = self.rng, self.play
@@ -357,6 +368,7 @@ class Player:
             lambda: play.update(rng.choice([len(weights), 0, 512]), bad_tradable, bad_fetched, bad_weights),
             lambda: play.lend(rng.choice([0, self.mix.log + 1, self.mix.log - 1 if self.mix.log else 1])),
             lambda: play.read(rng.choice(SYMBOL_READS), rng.choice([256, 300, 4294967295])),
+            self.cramped_read,
             lambda: play.cost_call("trade_impact_total", self.bad(), 1.0, "buy"),
             lambda: play.cost_call("calculate_trade_costs", 1.0, self.bad()),
             lambda: play.new(8, [amounts.cost(rng, False) for _ in range(rng.choice([17, 32]))], fetched),

@@ -3,7 +3,7 @@ judged like a generated one."""
 
 import floats
 from play import Play
-from player import SYMBOL_READS
+from player import LIST_READS, SYMBOL_READS
 
 
 def number(word):
@@ -73,6 +73,8 @@ def read(play, verb, words):
         play.rounding(verb, number(words[0]))
     elif verb in SYMBOL_READS:
         play.read(verb, int(words[0]))
+    elif verb in LIST_READS:
+        play.list_read(verb, int(words[0]))
     else:
         play.read(verb)
 

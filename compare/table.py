@@ -1,9 +1,10 @@
 """Prints what a comparison counted."""
 
 KINDS = ["new", "lend", "deposit", "withdraw", "liquidate", "send", "insert", "send_list", "delete", "check", "walk",
-         "update", "get_quote", "get_position_qty", "get_pending_order", "get_position_value", "cost_basis",
-         "get_total_value", "get_liquidation_value", "get_cash_balance", "turnover", "get_broker_state",
-         "executed_trade_count", "trade_impact_total", "calculate_trade_costs", "floor", "ceil", "state", "quiet", "full"]
+         "update", "get_quote", "get_position_qty", "get_pending_order", "get_position_value",
+         "get_position_liquidation_value", "cost_basis", "get_positions", "get_quotes", "get_holdings",
+         "get_pending_orders", "get_trade_costs", "get_total_value", "get_liquidation_value", "get_cash_balance",
+         "turnover", "get_broker_state", "executed_trade_count", "trade_impact_total", "calculate_trade_costs", "floor", "ceil", "state", "quiet", "full"]
 
 
 def numbers_table(title, counter, calls=None):
@@ -11,18 +12,18 @@ def numbers_table(title, counter, calls=None):
     numbers = sorted({number for _verb, number in counter})
     print(title)
     heads = (["calls"] if calls is not None else []) + ["-" if n == 0 else str(n) for n in numbers]
-    print("  %-22s" % "" + "".join("%9s" % head for head in heads))
+    print("  %-30s" % "" + "".join("%9s" % head for head in heads))
     for kind in KINDS:
         cells = [counter[kind, n] for n in numbers]
         if any(cells) or (calls is not None and calls[kind]):
             cells = ([calls[kind]] if calls is not None else []) + cells
-            print("  %-22s" % kind + "".join("%9d" % cell for cell in cells))
+            print("  %-30s" % kind + "".join("%9d" % cell for cell in cells))
 
 
 def stops_table(stops):
     print("Where comparisons stopped, and why:")
     for (verb, why), count in sorted(stops.items(), key=lambda item: (-item[1], item[0])):
-        print("  %7d  %-22s %s" % (count, verb, why))
+        print("  %7d  %-30s %s" % (count, verb, why))
 
 
 def depth(tally):

@@ -1,5 +1,8 @@
 // Lists of rows in a line: they end at a `/` or at the line's end.
-ghost use Prim.Native.Nat.{_≤_};
+ghost use mathlib.Core.Path.{_≡_};
+ghost use lib.ListN.{drop};
+ghost use Rattle.words.specs.Words.{wordsOf};
+ghost use Rattle.calls.specs.Lists.{isSlash, isRow, noList, listOf, spanned, readOrders, readQuotes, readWeights, readCosts};
 use costs::TradeCosts;
 use market::order::Order;
 use market::quote::Quote;
@@ -24,7 +27,9 @@ pub struct Span {
     pub ok: bool,
 }
 
-fn is_row(w: &[u8], kind: RowKind) -> bool {
+fn is_row(w: &[u8], kind: RowKind) -> bool
+    ensures { λ r. ⌜ r ≡ isRow kind (now (w .entry)) ⌝ }
+{
     match kind {
         RowKind::Cost => {
             let x = rows::cost(w);
@@ -45,13 +50,28 @@ fn is_row(w: &[u8], kind: RowKind) -> bool {
     }
 }
 
-fn is_slash(w: &[u8]) -> bool {
+fn is_slash(w: &[u8]) -> bool
+    ensures { λ r. ⌜ r ≡ isSlash (now (w .entry)) ⌝ }
+{
     word::is_name(w, b"/")
+}
+
+// No list: nothing is looked for behind it.
+fn no_list(line: &[u8]) -> Span
+    ensures { λ r. ⌜ spanned (now (line .entry)) r ≡ noList ⌝ }
+{
+    Span {
+        at: 0,
+        count: 0,
+        next: line.len(),
+        slash: false,
+        ok: false,
+    }
 }
 
 // The list of such rows that starts at `at`, of `most` rows at most.
 pub fn span_at(line: &[u8], at: usize, kind: RowKind, most: usize) -> Span
-    ensures { λ r. ⌜ r .count ≤ most ⌝ }
+    ensures { λ r. ⌜ spanned (now (line .entry)) r ≡ listOf kind most (wordsOf (drop at (now (line .entry)))) ⌝ }
 {
     let mut i = at;
     let mut count: usize = 0;
@@ -59,30 +79,31 @@ pub fn span_at(line: &[u8], at: usize, kind: RowKind, most: usize) -> Span
         let w = word::word_at(line, i);
         let from = w.from;
         let to = w.to;
-        if from >= to || is_slash(&line[from..to]) {
+        let slash = is_slash(&line[from..to]);
+        if slash | (from == to) {
             return Span {
                 at: at,
                 count: count,
                 next: to,
-                slash: from < to,
+                slash: slash,
                 ok: true,
             };
         }
-        if count >= most || !is_row(&line[from..to], kind) {
-            return Span {
-                at: at,
-                count: 0,
-                next: to,
-                slash: false,
-                ok: false,
-            };
+        if count >= most {
+            return no_list(line);
+        }
+        if !is_row(&line[from..to], kind) {
+            return no_list(line);
         }
         count = count + 1;
         i = to;
     }
 }
 
-pub fn quotes(line: &[u8], at: usize, n: usize) -> [Quote; 512] {
+// The first `n` words from `at` on, at most 512, as quotes.
+pub fn quotes(line: &[u8], at: usize, n: usize) -> [Quote; 512]
+    ensures { λ r. ⌜ r ≡ readQuotes n (wordsOf (drop at (now (line .entry)))) ⌝ }
+{
     let blank = Quote::blank();
     let mut list: [Quote; 512] = [blank; 512];
     let mut at_word = at;
@@ -103,7 +124,10 @@ pub fn quotes(line: &[u8], at: usize, n: usize) -> [Quote; 512] {
     list
 }
 
-pub fn weights(line: &[u8], at: usize, n: usize) -> [Weight; 512] {
+// The first `n` words from `at` on, at most 512, as weights.
+pub fn weights(line: &[u8], at: usize, n: usize) -> [Weight; 512]
+    ensures { λ r. ⌜ r ≡ readWeights n (wordsOf (drop at (now (line .entry)))) ⌝ }
+{
     let blank = Weight {
         symbol: 0,
         weight: 0.0,
@@ -127,7 +151,10 @@ pub fn weights(line: &[u8], at: usize, n: usize) -> [Weight; 512] {
     list
 }
 
-pub fn orders(line: &[u8], at: usize, n: usize) -> [Order; 1024] {
+// The first `n` words from `at` on, at most 1,024, as orders.
+pub fn orders(line: &[u8], at: usize, n: usize) -> [Order; 1024]
+    ensures { λ r. ⌜ r ≡ readOrders n (wordsOf (drop at (now (line .entry)))) ⌝ }
+{
     let blank = Order::market_sell(0, 0.0);
     let mut list: [Order; 1024] = [blank; 1024];
     let mut at_word = at;
@@ -148,7 +175,10 @@ pub fn orders(line: &[u8], at: usize, n: usize) -> [Order; 1024] {
     list
 }
 
-pub fn costs(line: &[u8], at: usize, n: usize) -> TradeCosts {
+// The first `n` words from `at` on as costs.
+pub fn costs(line: &[u8], at: usize, n: usize) -> TradeCosts
+    ensures { λ r. ⌜ r ≡ readCosts n (wordsOf (drop at (now (line .entry)))) ⌝ }
+{
     let mut list = TradeCosts::none();
     let mut at_word = at;
     let mut i: usize = 0;

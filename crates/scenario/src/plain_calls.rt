@@ -1,6 +1,7 @@
 // The calls that need no lent list: they run by value, and their answers are written.
 use crate::answer;
 use crate::answer::Head;
+use crate::list_calls;
 use arrays::clock;
 use broker::read::FloatRead;
 use broker::state::UistBroker;
@@ -89,6 +90,9 @@ fn symbol_call(b: UistBroker, c: Call, head: Head) {
         Verb::GetPositionQty => answer::amount(head, b.get_position_qty(c.symbol)),
         Verb::GetPendingOrder => answer::amount(head, b.get_pending_order(c.symbol)),
         Verb::GetPositionValue => answer::amount(head, b.get_position_value(c.symbol)),
+        Verb::GetPositionLiquidationValue => {
+            answer::amount(head, b.get_position_liquidation_value(c.symbol))
+        }
         _ => answer::quote(head, b.get_quote(c.symbol)),
     }
 }
@@ -150,8 +154,20 @@ pub fn plain_call(b: UistBroker, c: Call, head: Head) -> Done {
         Verb::Send => send_call(b, c, head),
         Verb::Insert => insert_call(b, c, head),
         Verb::Delete => delete_call(b, c, head),
-        Verb::GetQuote | Verb::GetPositionQty | Verb::GetPendingOrder | Verb::GetPositionValue => {
+        Verb::GetQuote
+        | Verb::GetPositionQty
+        | Verb::GetPendingOrder
+        | Verb::GetPositionValue
+        | Verb::GetPositionLiquidationValue => {
             symbol_call(b, c, head);
+            timed(b, from)
+        }
+        Verb::GetPositions
+        | Verb::GetQuotes
+        | Verb::GetHoldings
+        | Verb::GetPendingOrders
+        | Verb::GetTradeCosts => {
+            list_calls::list_call(b, c.room, head);
             timed(b, from)
         }
         _ => {

@@ -7,7 +7,7 @@ use mathlib.Core.Bool.{Bool, true, false, cond, Bool·beq}
 use mathlib.Core.List.{List, [], _∷_}
 use mathlib.Core.Logic.{⊎-elim}
 use lib.Dec.{eqb}
-use lib.ListN.{length, take, drop}
+use lib.ListN.{length, getD, take, drop}
 use lib.Seq.{drop-drop}
 use Rattle.words.specs.declared.word.Word.{Word}
 use Rattle.words.specs.Words.{split, onFirst, nonempty, wordsOf, isByte, lead, place, wordAt, bytesIn}
@@ -136,3 +136,24 @@ module _ (l : List ℕ) (at : ℕ) {r : Word} (e : r ≡ wordAt l at) where
   none-of h =
       let same : r .from ≡ r .to = omega (arith, ordered) in
       no-word-left l at (ap (λ (w : Word). w .from) (sym e) ∙ same ∙ ap (λ (w : Word). w .to) e)
+
+  -- its bytes are the first word that is left, and the others stand behind it; where none is left it is empty
+  pub first-of : bytesIn l r ≡ getD (wordsOf (drop at l)) 0 []
+  first-of =
+      ⊎-elim
+      (λ h. let z : r .to - r .from ≡ 0 = omega arith in ap (λ (k : ℕ). take k (drop (r .from) l)) z ∙ sym (ap (λ (ws : List (List ℕ)). getD ws 0 []) (none-of (omega arith))))
+      (λ h. sym (ap (λ (ws : List (List ℕ)). getD ws 0 []) (next-of h)))
+      (eq-or-lt-of-le ordered)
+
+  pub rest-of : wordsOf (drop (r .to) l) ≡ drop 1 (wordsOf (drop at l))
+  rest-of =
+      ⊎-elim
+      (λ h.
+      let none = none-of (omega arith) in
+      ap (λ (k : ℕ). wordsOf (drop k l)) (sym h)
+      ∙ ap (λ (w : Word). wordsOf (drop (w .from) l)) e
+      ∙ sym (from-there l at)
+      ∙ none
+      ∙ sym (ap (drop 1) none))
+      (λ h. sym (ap (drop 1) (next-of h)))
+      (eq-or-lt-of-le ordered)

@@ -16,9 +16,12 @@ use rotala_http::http::uist_v1::{Fetched, LocalClient, Market};
 
 use crate::clock::Clock;
 use crate::line::{call, Call, MOST_BYTES};
+use crate::lists::{put_list, sorted_holdings, sorted_names, sorted_quotes};
 use crate::shared::{Broker, Event, SharedBroker};
 use crate::state::{state_word, Logged};
-use crate::text::{put, put_float, put_optional, put_order, put_quote, put_whole};
+use crate::text::{
+    put, put_cost, put_float, put_holding, put_optional, put_order, put_quote, put_symbol, put_whole,
+};
 
 /// `Err` holds the message of the Rust's panic.
 type Answered = Result<(), String>;
@@ -248,11 +251,7 @@ impl Driver {
         let broker = &mut *self.broker.borrow_mut();
         let orders = self.clock.call(|| broker.diff_brkr_against_target_weights(weights))?;
         self.out.push(b' ');
-        put_whole(&mut self.out, orders.len() as u64);
-        for order in &orders {
-            self.out.push(b' ');
-            put_order(&mut self.out, order);
-        }
+        put_list(&mut self.out, &orders, put_order);
         Ok(())
     }
 
@@ -291,6 +290,18 @@ impl Driver {
                 Some(quote) => put_quote(out, &quote),
                 None => put(out, "none"),
             },
+            Call::Quotes => {
+                let quotes = clock.call(|| broker.get_quotes())?;
+                put_list(out, &sorted_quotes(quotes), put_quote);
+            }
+            Call::Positions => {
+                let names = clock.call(|| broker.get_positions())?;
+                put_list(out, &sorted_names(names), |out, name| put_symbol(out, name));
+            }
+            Call::Holdings(get) => {
+                put_list(out, &sorted_holdings(clock.call(|| get(broker))?), put_holding)
+            }
+            Call::TradeCosts => put_list(out, &clock.call(|| broker.get_trade_costs())?, put_cost),
             Call::Position(get, name) => put_optional(out, clock.call(|| get(broker, &name))?),
             Call::Figure(get) => put_float(out, clock.call(|| get(broker))?),
             Call::BrokerState => put(out, clock.call(|| state_word(broker))?),

@@ -3,7 +3,8 @@
 use rotala::exchange::uist_v1::Order;
 use rotala::input::penelope::PenelopeQuoteByDate;
 use rotala_client::broker::{
-    BrokerCashEvent, BrokerCost, BrokerOperations, CashOperations, Portfolio, PortfolioValues,
+    BrokerCashEvent, BrokerCost, BrokerOperations, CashOperations, Portfolio, PortfolioHoldings,
+    PortfolioValues,
 };
 
 use crate::shared::Broker;
@@ -28,6 +29,10 @@ pub enum Call {
     Walk(PortfolioValues),
     Update(PenelopeQuoteByDate, PenelopeQuoteByDate, PortfolioValues),
     Quote(String),
+    Quotes,
+    Positions,
+    Holdings(fn(&Broker) -> PortfolioHoldings),
+    TradeCosts,
     Position(fn(&Broker, &str) -> Option<f64>, String),
     Figure(fn(&Broker) -> f64),
     BrokerState,
@@ -125,9 +130,19 @@ fn read(verb: &[u8], rest: Words) -> Option<Call> {
     let position = |get, name: &[u8]| Some(Call::Position(get, symbol(name)?));
     match (verb, rest) {
         (b"get_quote", [name]) => symbol(name).map(Call::Quote),
+        (b"get_quotes", [space]) => room(space).map(|_| Call::Quotes),
+        (b"get_positions", [space]) => room(space).map(|_| Call::Positions),
+        (b"get_holdings", [space]) => room(space).map(|_| Call::Holdings(Broker::get_holdings)),
+        (b"get_pending_orders", [space]) => {
+            room(space).map(|_| Call::Holdings(Broker::get_pending_orders))
+        }
+        (b"get_trade_costs", [space]) => room(space).map(|_| Call::TradeCosts),
         (b"get_position_qty", [name]) => position(Broker::get_position_qty, name),
         (b"get_pending_order", [name]) => position(pending, name),
         (b"get_position_value", [name]) => position(Broker::get_position_value, name),
+        (b"get_position_liquidation_value", [name]) => {
+            position(Broker::get_position_liquidation_value, name)
+        }
         (b"cost_basis", [name]) => position(Broker::cost_basis, name),
         (b"get_total_value", []) => Some(Call::Figure(Broker::get_total_value)),
         (b"get_liquidation_value", []) => Some(Call::Figure(Broker::get_liquidation_value)),

@@ -3,6 +3,7 @@
 mod calls;
 mod clock;
 mod line;
+mod lists;
 mod shared;
 mod state;
 mod text;

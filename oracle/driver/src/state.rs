@@ -1,11 +1,12 @@
 //! Writes what the broker and its exchange hold, as the eight lines of docs/SCENARIOS.md.
 
 use rotala::exchange::uist_v1::{resting, waiting, Trade, UistV1};
-use rotala_client::broker::{BrokerState, BrokerStates, Portfolio, PortfolioHoldings, Quote};
+use rotala_client::broker::{BrokerState, BrokerStates, Portfolio, Quote};
 
+use crate::lists::{number, put_rows, sorted_holdings, sorted_quotes};
 use crate::shared::Broker;
 use crate::text::{
-    put, put_float, put_optional, put_order, put_quote, put_symbol, put_trade, put_whole,
+    put, put_float, put_holding, put_optional, put_order, put_quote, put_symbol, put_trade, put_whole,
 };
 
 fn trades(broker: &Broker) -> Vec<Trade> {
@@ -18,10 +19,6 @@ fn sum_of_values(trades: &[Trade]) -> f64 {
 
 pub fn turnover(broker: &Broker) -> f64 {
     sum_of_values(&trades(broker))
-}
-
-fn number(name: &str) -> u32 {
-    name.parse().expect("every name here is a number")
 }
 
 pub fn state_word(broker: &Broker) -> &'static str {
@@ -58,9 +55,12 @@ impl Logged {
     pub fn put_state(&mut self, out: &mut Vec<u8>, broker: &Broker, exchange: &UistV1) {
         self.refresh(broker, exchange.executed_trade_count());
         put_figures(out, broker, self.turnover);
-        put_map(out, "\n held", broker.get_holdings());
-        put_map(out, "\n pending", broker.get_pending_orders());
-        put_latest(out, broker);
+        put(out, "\n held");
+        put_rows(out, &sorted_holdings(broker.get_holdings()), put_holding);
+        put(out, "\n pending");
+        put_rows(out, &sorted_holdings(broker.get_pending_orders()), put_holding);
+        put(out, "\n latest");
+        put_rows(out, &sorted_quotes(broker.get_quotes()), put_quote);
         put(out, "\n basis");
         for (name, basis) in &self.bases {
             out.push(b' ');
@@ -70,10 +70,7 @@ impl Logged {
         }
         put(out, "\n trades ");
         put_whole(out, self.trades.len() as u64);
-        for trade in &self.trades[self.shown..] {
-            out.push(b' ');
-            put_trade(out, trade);
-        }
+        put_rows(out, &self.trades[self.shown..], put_trade);
         self.shown = self.trades.len();
         put_orders(out, exchange);
     }
@@ -90,28 +87,6 @@ fn put_figures(out: &mut Vec<u8>, broker: &Broker, turnover: f64) {
     put_float(out, broker.get_liquidation_value());
     put(out, " turnover ");
     put_float(out, turnover);
-}
-
-fn put_map(out: &mut Vec<u8>, title: &str, map: PortfolioHoldings) {
-    put(out, title);
-    let mut rows: Vec<(String, f64)> = map.into_iter().collect();
-    rows.sort_unstable_by_key(|(name, _)| number(name));
-    for (name, value) in rows {
-        out.push(b' ');
-        put_symbol(out, &name);
-        out.push(b':');
-        put_float(out, value);
-    }
-}
-
-fn put_latest(out: &mut Vec<u8>, broker: &Broker) {
-    put(out, "\n latest");
-    let mut quotes = broker.get_quotes().unwrap_or_default();
-    quotes.sort_unstable_by_key(|quote| number(&quote.symbol));
-    for quote in &quotes {
-        out.push(b' ');
-        put_quote(out, quote);
-    }
 }
 
 fn put_orders(out: &mut Vec<u8>, exchange: &UistV1) {

@@ -121,6 +121,22 @@ pub fn put_symbol(out: &mut Vec<u8>, name: &str) {
     put(out, if digits.is_empty() { "0" } else { digits });
 }
 
+pub fn put_holding(out: &mut Vec<u8>, (name, quantity): &(String, f64)) {
+    put_symbol(out, name);
+    out.push(b':');
+    put_float(out, *quantity);
+}
+
+pub fn put_cost(out: &mut Vec<u8>, cost: &BrokerCost) {
+    let (case, amount) = match cost {
+        BrokerCost::PerShare(amount) => ("per_share:", amount),
+        BrokerCost::PctOfValue(amount) => ("pct_of_value:", amount),
+        BrokerCost::Flat(amount) => ("flat:", amount),
+    };
+    put(out, case);
+    put_float(out, *amount);
+}
+
 pub fn put_order(out: &mut Vec<u8>, order: &Order) {
     put(out, match order.order_type {
         OrderType::MarketBuy => "mb:",

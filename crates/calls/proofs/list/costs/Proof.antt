@@ -1,13 +1,16 @@
--- `list::costs` is safe and ends. Assumes nothing.
+-- `list::costs` meets its contract. The loop's invariant: the costs so far, with those of the words that are left, are all. Assumes nothing.
 use Prim.Native.Nat.{_-_}
+use mathlib.Core.Path.{ap, _∙_}
 use native.Mathlib.Omega.{arith}
+use Rattle.costs.specs.Kept.{withCost}
 use Rattle.words.proofs.Words.{ordered, within}
+use Rattle.calls.proofs.Lists.{Gathered, none-gathered, gathered-more, all-gathered}
 use borrow.Author.Needs.{needs}
 use Rattle.calls.proofs.list.costs.Statement.{statement}
 use Rattle.calls.proofs.list.costs.Tie as tie
 
 abbrev Inv-loop : tie.InvT-loop
-Inv-loop line at n list₀ at-word₀ i₀ list at-word i = Unit
+Inv-loop line at n list₀ at-word₀ i₀ list at-word i = Gathered line at n list at-word i
 
 abbrev μ-loop : tie.MeasureT-loop
 μ-loop line at n list₀ at-word₀ i₀ list at-word i = n - i
@@ -16,16 +19,16 @@ none-requires : tie.Need-none-requires Inv-loop μ-loop
 none-requires c κs = search needs
 
 loop-holds : tie.Need-loop-holds Inv-loop μ-loop
-loop-holds c = search needs
+loop-holds c = none-gathered _ _ _ _ (c .none .ensures)
 
 word-at-requires : tie.Need-word-at-requires Inv-loop μ-loop
 word-at-requires c κs = search needs
 
 sub-cost : tie.Need-sub-cost Inv-loop μ-loop
-sub-cost c = omega (arith, ordered, within)
+sub-cost c = omega (arith, ordered)
 
 part-cost-start : tie.Need-part-cost-start Inv-loop μ-loop
-part-cost-start c = omega (arith, ordered, within)
+part-cost-start c = omega (arith, ordered)
 
 part-cost-end : tie.Need-part-cost-end Inv-loop μ-loop
 part-cost-end c = within _ _ (c .word-at .ensures)
@@ -43,10 +46,15 @@ loop-less : tie.Need-loop-less Inv-loop μ-loop
 loop-less c = search needs
 
 loop-again : tie.Need-loop-again Inv-loop μ-loop
-loop-again c = search needs
+loop-again c =
+    let at = c .before .before .before in
+    let loop = at .before .before .loop in
+    gathered-more _ _ _ _ _ _ (loop .inv) (at .word-at .ensures) _
+    (c .with .ensures ∙ ap (λ x. withCost (loop .list) (x .cost)) (c .before .cost .ensures))
+    (omega arith)
 
 returns : tie.Need-returns Inv-loop μ-loop
-returns c = search needs
+returns c = all-gathered _ _ _ _ _ _ (c .before .loop .inv) (omega arith)
 
 pub costs-spec : {M : Type 1} → statement M
 costs-spec =

@@ -1,13 +1,17 @@
--- `list::orders` is safe and ends. Assumes nothing.
+-- `list::orders` meets its contract. The loop's invariant: the first `i` words are stored as rows, and `at_word` is behind them. Assumes nothing.
 use Prim.Native.Nat.{_-_}
+use mathlib.Core.Path.{ap}
 use native.Mathlib.Omega.{arith}
+use lib.ListN.{replicate}
 use Rattle.words.proofs.Words.{ordered, within}
+use Rattle.calls.specs.Lists.{orderIn, blankOrder, readOrders}
+use Rattle.calls.proofs.Lists.{Filled, none-filled, filled-more, all-filled}
 use borrow.Author.Needs.{needs}
 use Rattle.calls.proofs.list.orders.Statement.{statement}
 use Rattle.calls.proofs.list.orders.Tie as tie
 
 abbrev Inv-loop : tie.InvT-loop
-Inv-loop line at n list₀ at-word₀ i₀ list at-word i = Unit
+Inv-loop line at n list₀ at-word₀ i₀ list at-word i = Filled orderIn blankOrder 1024 line at n list at-word i
 
 abbrev μ-loop : tie.MeasureT-loop
 μ-loop line at n list₀ at-word₀ i₀ list at-word i = 1024 - i
@@ -16,16 +20,16 @@ market-sell-requires : tie.Need-market-sell-requires Inv-loop μ-loop
 market-sell-requires c κs = search needs
 
 loop-holds : tie.Need-loop-holds Inv-loop μ-loop
-loop-holds c = search needs
+loop-holds c = none-filled _ _ _ _ _ _ _ (ap (replicate 1024) (c .market-sell .ensures))
 
 word-at-requires : tie.Need-word-at-requires Inv-loop μ-loop
 word-at-requires c κs = search needs
 
 sub-order : tie.Need-sub-order Inv-loop μ-loop
-sub-order c = omega (arith, ordered, within)
+sub-order c = omega (arith, ordered)
 
 part-order-start : tie.Need-part-order-start Inv-loop μ-loop
-part-order-start c = omega (arith, ordered, within)
+part-order-start c = omega (arith, ordered)
 
 part-order-end : tie.Need-part-order-end Inv-loop μ-loop
 part-order-end c = within _ _ (c .word-at .ensures)
@@ -46,13 +50,18 @@ loop-less : tie.Need-loop-less Inv-loop μ-loop
 loop-less c = search needs
 
 loop-again : tie.Need-loop-again Inv-loop μ-loop
-loop-again c = search needs
+loop-again c =
+    let at = c .before .before .before in
+    let test = at .before .before in
+    filled-more _ _ _ _ _ _ _ _ _ (test .before .loop .inv) (at .word-at .ensures) _ (ap (λ x. x .order) (c .before .order .ensures)) (omega arith) (at .before .if1 .left)
 
 returns : tie.Need-returns Inv-loop μ-loop
-returns c = search needs
+unfolding readOrders
+returns c = all-filled _ _ _ _ _ _ _ _ _ (c .before .loop .inv) (omega arith)
 
 returns-2 : tie.Need-returns-2 Inv-loop μ-loop
-returns-2 c = search needs
+unfolding readOrders
+returns-2 c = all-filled _ _ _ _ _ _ _ _ _ (c .before .before .loop .inv) (omega arith)
 
 pub orders-spec : {M : Type 1} → statement M
 orders-spec =

@@ -1,13 +1,18 @@
--- `list::quotes` is safe and ends. Assumes nothing.
+-- `list::quotes` meets its contract. The loop's invariant: the first `i` words are stored as rows, and `at_word` is behind them. Assumes nothing.
 use Prim.Native.Nat.{_-_}
+use mathlib.Core.Path.{ap}
 use native.Mathlib.Omega.{arith}
+use lib.ListN.{replicate}
+use Rattle.market.specs.Quotes.{blankQuote}
 use Rattle.words.proofs.Words.{ordered, within}
+use Rattle.calls.specs.Lists.{quoteIn, readQuotes}
+use Rattle.calls.proofs.Lists.{Filled, none-filled, filled-more, all-filled}
 use borrow.Author.Needs.{needs}
 use Rattle.calls.proofs.list.quotes.Statement.{statement}
 use Rattle.calls.proofs.list.quotes.Tie as tie
 
 abbrev Inv-loop : tie.InvT-loop
-Inv-loop line at n list₀ at-word₀ i₀ list at-word i = Unit
+Inv-loop line at n list₀ at-word₀ i₀ list at-word i = Filled quoteIn blankQuote 512 line at n list at-word i
 
 abbrev μ-loop : tie.MeasureT-loop
 μ-loop line at n list₀ at-word₀ i₀ list at-word i = 512 - i
@@ -16,16 +21,16 @@ blank-requires : tie.Need-blank-requires Inv-loop μ-loop
 blank-requires c κs = search needs
 
 loop-holds : tie.Need-loop-holds Inv-loop μ-loop
-loop-holds c = search needs
+loop-holds c = none-filled _ _ _ _ _ _ _ (ap (replicate 512) (c .blank .ensures))
 
 word-at-requires : tie.Need-word-at-requires Inv-loop μ-loop
 word-at-requires c κs = search needs
 
 sub-quote : tie.Need-sub-quote Inv-loop μ-loop
-sub-quote c = omega (arith, ordered, within)
+sub-quote c = omega (arith, ordered)
 
 part-quote-start : tie.Need-part-quote-start Inv-loop μ-loop
-part-quote-start c = omega (arith, ordered, within)
+part-quote-start c = omega (arith, ordered)
 
 part-quote-end : tie.Need-part-quote-end Inv-loop μ-loop
 part-quote-end c = within _ _ (c .word-at .ensures)
@@ -46,13 +51,18 @@ loop-less : tie.Need-loop-less Inv-loop μ-loop
 loop-less c = search needs
 
 loop-again : tie.Need-loop-again Inv-loop μ-loop
-loop-again c = search needs
+loop-again c =
+    let at = c .before .before .before in
+    let test = at .before .before in
+    filled-more _ _ _ _ _ _ _ _ _ (test .before .loop .inv) (at .word-at .ensures) _ (ap (λ x. x .quote) (c .before .quote .ensures)) (omega arith) (at .before .if1 .left)
 
 returns : tie.Need-returns Inv-loop μ-loop
-returns c = search needs
+unfolding readQuotes
+returns c = all-filled _ _ _ _ _ _ _ _ _ (c .before .loop .inv) (omega arith)
 
 returns-2 : tie.Need-returns-2 Inv-loop μ-loop
-returns-2 c = search needs
+unfolding readQuotes
+returns-2 c = all-filled _ _ _ _ _ _ _ _ _ (c .before .before .loop .inv) (omega arith)
 
 pub quotes-spec : {M : Type 1} → statement M
 quotes-spec =

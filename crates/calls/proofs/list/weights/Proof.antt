@@ -1,28 +1,31 @@
--- `list::weights` is safe and ends. Assumes nothing.
+-- `list::weights` meets its contract. The loop's invariant: the first `i` words are stored as rows, and `at_word` is behind them. Assumes nothing.
 use Prim.Native.Nat.{_-_}
+use mathlib.Core.Path.{refl, ap}
 use native.Mathlib.Omega.{arith}
 use Rattle.words.proofs.Words.{ordered, within}
+use Rattle.calls.specs.Lists.{weightIn, blankWeight, readWeights}
+use Rattle.calls.proofs.Lists.{Filled, none-filled, filled-more, all-filled}
 use borrow.Author.Needs.{needs}
 use Rattle.calls.proofs.list.weights.Statement.{statement}
 use Rattle.calls.proofs.list.weights.Tie as tie
 
 abbrev Inv-loop : tie.InvT-loop
-Inv-loop line at n list₀ at-word₀ i₀ list at-word i = Unit
+Inv-loop line at n list₀ at-word₀ i₀ list at-word i = Filled weightIn blankWeight 512 line at n list at-word i
 
 abbrev μ-loop : tie.MeasureT-loop
 μ-loop line at n list₀ at-word₀ i₀ list at-word i = 512 - i
 
 loop-holds : tie.Need-loop-holds Inv-loop μ-loop
-loop-holds c = search needs
+loop-holds c = none-filled _ _ _ _ _ _ _ refl
 
 word-at-requires : tie.Need-word-at-requires Inv-loop μ-loop
 word-at-requires c κs = search needs
 
 sub-weight : tie.Need-sub-weight Inv-loop μ-loop
-sub-weight c = omega (arith, ordered, within)
+sub-weight c = omega (arith, ordered)
 
 part-weight-start : tie.Need-part-weight-start Inv-loop μ-loop
-part-weight-start c = omega (arith, ordered, within)
+part-weight-start c = omega (arith, ordered)
 
 part-weight-end : tie.Need-part-weight-end Inv-loop μ-loop
 part-weight-end c = within _ _ (c .word-at .ensures)
@@ -43,13 +46,18 @@ loop-less : tie.Need-loop-less Inv-loop μ-loop
 loop-less c = search needs
 
 loop-again : tie.Need-loop-again Inv-loop μ-loop
-loop-again c = search needs
+loop-again c =
+    let at = c .before .before .before in
+    let test = at .before .before in
+    filled-more _ _ _ _ _ _ _ _ _ (test .before .loop .inv) (at .word-at .ensures) _ (ap (λ x. x .weight) (c .before .weight .ensures)) (omega arith) (at .before .if1 .left)
 
 returns : tie.Need-returns Inv-loop μ-loop
-returns c = search needs
+unfolding readWeights
+returns c = all-filled _ _ _ _ _ _ _ _ _ (c .before .loop .inv) (omega arith)
 
 returns-2 : tie.Need-returns-2 Inv-loop μ-loop
-returns-2 c = search needs
+unfolding readWeights
+returns-2 c = all-filled _ _ _ _ _ _ _ _ _ (c .before .before .loop .inv) (omega arith)
 
 pub weights-spec : {M : Type 1} → statement M
 weights-spec =
