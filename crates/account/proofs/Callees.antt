@@ -4,7 +4,7 @@ use lib.Ieee.{Float}
 use prog.Routine.{Env}
 use mir.Syntax.{Name}
 use borrow.Fn.World.{World}
-use Rattle.walks.proofs.Walk.{Callee, Knows, under}
+use Rattle.slices.proofs.Derivation.{Callee, Knows, under}
 use Rattle.account.specs.Account.{creditOf, debitOf, forceOf}
 use Rattle.account.specs.declared.Moved.{Moved}
 use Rattle.account.proofs.value.with_cash.Kinds as with-cash-Kinds

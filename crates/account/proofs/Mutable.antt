@@ -10,8 +10,8 @@
 --     }
 -- Assumes nothing.
 use mir.Syntax.{Body, Home, Name, Opd, valueLocal, assign, place, rvOpd, copy, deref, call, seq, return}
-use Rattle.walks.proofs.Walk.{Base, R, ty, rV, same, hasV, freeV, fr, gn, drop, gets, gives, returns, Knows, _&_, no-more, real, by-val, by-float, calls, Contract, Task, Derives, Owes, Runs, refl, false, _≡_, sym, _∙_, ap, subst, List, [], _∷_, ℕ, Ty, Float, binary64, pMut, pFloat, Sc, sFloat}
-use Rattle.walks.proofs.Task as Task
+use Rattle.slices.proofs.Derivation.{Base, R, ty, rV, same, hasV, freeV, fr, gn, drop, gets, gives, returns, Knows, _&_, no-more, real, by-val, by-float, calls, Contract, Task, Derives, Owes, Runs, refl, false, _≡_, sym, _∙_, ap, subst, List, [], _∷_, ℕ, Ty, Float, binary64, pMut, pFloat, Sc, sFloat}
+use Rattle.slices.proofs.Task as Task
 use Rattle.account.specs.Account.{accountOf, Tells}
 use Rattle.account.specs.declared.BrokerCashEvent.{BrokerCashEvent}
 use Rattle.account.specs.declared.Moved.{Moved}
@@ -25,7 +25,7 @@ abbrev local : ℕ → Opd
 local n = copy (place n [])
 
 -- `of` is what it does, `number` what it draws, and `key` the function by value that does it
-module _ (of : Float → Float → Moved) (number : Float → Float → ℕ) where
+module _ (of : Float → Float → Moved) (fault : Float → Float → ℕ) where
   abbrev pub contract : Contract
   contract = record {
     n = 1;
@@ -33,14 +33,14 @@ module _ (of : Float → Float → Moved) (number : Float → Float → ℕ) whe
     r = rV broker-cash-event;
     requires = false;
     Pre = λ κs a. Unit {0};
-    Post = λ κs a z e. (z ≡ of (a .0 .now .cash) (a .1 .0) .event) × (e .0 .now ≡ accountOf (of (a .0 .now .cash) (a .1 .0))) × Tells z (number (a .0 .now .cash) (a .1 .0)) (a .1 .0);
+    Post = λ κs a z e. (z ≡ of (a .0 .now .cash) (a .1 .0) .event) × (e .0 .now ≡ accountOf (of (a .0 .now .cash) (a .1 .0))) × Tells z (fault (a .0 .now .cash) (a .1 .0)) (a .1 .0);
   }
 
   -- the event that is answered tells what that of `of` does
-  told : (cash value : Float) (e : BrokerCashEvent) → e ≡ of cash value .event → Tells (of cash value .event) (number cash value) value → Tells e (number cash value) value
-  told cash value e p t = subst (λ (x : BrokerCashEvent). Tells x (number cash value) value) (sym p) t
+  told : (cash value : Float) (e : BrokerCashEvent) → e ≡ of cash value .event → Tells (of cash value .event) (fault cash value) value → Tells e (fault cash value) value
+  told cash value e p t = subst (λ (x : BrokerCashEvent). Tells x (fault cash value) value) (sym p) t
 
-  module _ (tells : (cash value : Float) → Tells (of cash value .event) (number cash value) value) (key : Name) where
+  module _ (tells : (cash value : Float) → Tells (of cash value .event) (fault cash value) value) (key : Name) where
     abbrev locals : List Ty
     locals = ty account ∷ ty moved ∷ ty account ∷ []
 

@@ -9,8 +9,8 @@
 -- Assumes nothing.
 use mathlib.Core.Path.{ap₂}
 use mir.Syntax.{Body, Home, Name, Opd, valueLocal, memorySlot, assign, place, rvOpd, copy, addrOf, call, seq, return}
-use Rattle.walks.proofs.Walk.{Base, ty, ptrTo, rV, same, hasV, makeV, lentV, freeV, fr, gn, drop, copies, units, begins, over, forgets, lends, home, returns, Callee, Knows, _&_, no-more, real, mut-ref, by-val, by-float, by-mut, calls, Contract, callee, Task, Derives, Owes, Runs, refl, false, _≡_, sym, _∙_, ap, subst, List, [], _∷_, ℕ, Ty, Float, binary64, erased, mut, pFloat, Sc, sFloat}
-use Rattle.walks.proofs.Task as Task
+use Rattle.slices.proofs.Derivation.{Base, ty, ptrTo, rV, same, hasV, makeV, lentV, freeV, fr, gn, drop, copies, units, begins, over, forgets, lends, home, returns, Callee, Knows, _&_, no-more, real, mut-ref, by-val, by-float, by-mut, calls, Contract, callee, Task, Derives, Owes, Runs, refl, false, _≡_, sym, _∙_, ap, subst, List, [], _∷_, ℕ, Ty, Float, binary64, erased, mut, pFloat, Sc, sFloat}
+use Rattle.slices.proofs.Task as Task
 use Rattle.account.specs.Account.{accountOf, Tells}
 use Rattle.account.specs.declared.Account.{Account}
 use Rattle.account.specs.declared.BrokerCashEvent.{BrokerCashEvent}
@@ -30,18 +30,18 @@ abbrev τ : Ty
 τ = ptrTo account mut erased
 
 -- `of` is what the function over the lent account does, `number` what it draws, and `key` its key
-module _ (of : Float → Float → Moved) (number : Float → Float → ℕ) where
+module _ (of : Float → Float → Moved) (fault : Float → Float → ℕ) where
   abbrev pub contract : Contract
-  contract = record { n = 0; ps = pFloat binary64 ∷ pFloat binary64 ∷ []; r = rV moved; requires = false; Pre = λ κs a. Unit {0}; Post = λ κs a z e. (z ≡ of (a .0) (a .1 .0)) × Tells (z .event) (number (a .0) (a .1 .0)) (a .1 .0) }
+  contract = record { n = 0; ps = pFloat binary64 ∷ pFloat binary64 ∷ []; r = rV moved; requires = false; Pre = λ κs a. Unit {0}; Post = λ κs a z e. (z ≡ of (a .0) (a .1 .0)) × Tells (z .event) (fault (a .0) (a .1 .0)) (a .1 .0) }
 
   -- the account a is opened and left as b, with the event e, and m is answered
-  done : (cash value : Float) (a b : Account) (e : BrokerCashEvent) (m : Moved) → a .cash ≡ cash → (e ≡ of (a .cash) value .event) × (b ≡ accountOf (of (a .cash) value)) × Tells e (number (a .cash) value) value → (m .cash ≡ b .cash) × (m .event ≡ e) → (m ≡ of cash value) × Tells (m .event) (number cash value) value
+  done : (cash value : Float) (a b : Account) (e : BrokerCashEvent) (m : Moved) → a .cash ≡ cash → (e ≡ of (a .cash) value .event) × (b ≡ accountOf (of (a .cash) value)) × Tells e (fault (a .cash) value) value → (m .cash ≡ b .cash) × (m .event ≡ e) → (m ≡ of cash value) × Tells (m .event) (fault cash value) value
   done cash value a b e m opened left answers =
       let moved =
       ap₂ (λ (x : Float) (y : BrokerCashEvent). record { cash = x; event = y }) (answers .0 ∙ ap (λ (x : Account). x .cash) (left .1)) (answers .1 ∙ left .0)
       ∙ ap (λ (x : Float). of x value) opened in
-      let told = subst (λ (y : BrokerCashEvent). Tells y (number (a .cash) value) value) (sym (answers .1)) (left .2) in
-      (moved, subst (λ (x : Float). Tells (m .event) (number x value) value) opened told)
+      let told = subst (λ (y : BrokerCashEvent). Tells y (fault (a .cash) value) value) (sym (answers .1)) (left .2) in
+      (moved, subst (λ (x : Float). Tells (m .event) (fault x value) value) opened told)
 
   module _ (key : Name) where
     abbrev locals : List Ty
@@ -60,7 +60,7 @@ module _ (of : Float → Float → Moved) (number : Float → Float → ℕ) whe
         seq (call (answered .key) (local 5 ∷ local 4 ∷ []) (place 0 [])) return)))))
 
     abbrev lent : Callee
-    lent = callee (Mutable.contract of number) key
+    lent = callee (Mutable.contract of fault) key
 
     abbrev pub Kn : Base → Type 1
     Kn o = Knows with-cash o × Knows lent o × Knows answered o

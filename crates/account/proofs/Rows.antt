@@ -7,7 +7,7 @@ use Rattle.account.proofs.BrokerCashEvent as E
 use Rattle.account.proofs.BrokerCashEvent.Laws as E′
 use Rattle.account.proofs.Moved as M
 use Rattle.account.proofs.Moved.Laws as M′
-use Rattle.walks.proofs.Walk.{Kin, struct, enum}
+use Rattle.slices.proofs.Derivation.{Kin, struct, enum}
 
 abbrev pub account : Kin
 account = struct A.the-type A′.the-laws A′.the-copy A′.the-plain (record { cash = nan }) tt

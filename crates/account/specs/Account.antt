@@ -4,7 +4,7 @@ use mathlib.Core.Bool.{cond}
 use mathlib.Core.List.{[], _∷_}
 use mathlib.Core.Path.{_≡_}
 use lib.Ieee.{Float}
-use Rattle.market.specs.Numbers.{_draws_, drawn}
+use Rattle.market.specs.Faults.{_draws_, drawn}
 use Rattle.rules.specs.Amounts.{plus, minus, below}
 use Rattle.account.specs.declared.Account.{Account}
 use Rattle.account.specs.declared.BrokerCashEvent.{BrokerCashEvent}
@@ -12,13 +12,13 @@ use Rattle.account.specs.declared.BrokerCashEvent.the-variants.{Withdraw
 use Rattle.account.specs.declared.Moved.{Moved}
 
 -- cash mover: 4, 12; and 2 and 16, which the Rust does not have
-abbrev pub cashNumber : BrokerCashEvent → ℕ
-cashNumber (WithdrawSuccess x) = 0
-cashNumber (WithdrawFailure x) = 12
-cashNumber (DepositSuccess x) = 0
-cashNumber (OperationFailure x) = 4
-cashNumber (NotFinite x) = 2
-cashNumber (Broken x) = 16
+abbrev pub cashFault : BrokerCashEvent → ℕ
+cashFault (WithdrawSuccess x) = 0
+cashFault (WithdrawFailure x) = 12
+cashFault (DepositSuccess x) = 0
+cashFault (OperationFailure x) = 4
+cashFault (NotFinite x) = 2
+cashFault (Broken x) = 16
 
 -- the amount that an event is about
 abbrev pub cashAmount : BrokerCashEvent → Float
@@ -31,7 +31,7 @@ cashAmount (Broken x) = x
 
 -- what an event tells: the number drawn, or 0, and the amount
 pub record Tells (e : BrokerCashEvent) (n : ℕ) (a : Float) : Type 0 where
-  pub number : cashNumber e ≡ n
+  pub fault : cashFault e ≡ n
   pub amount : cashAmount e ≡ a
 
 -- a credit is value + cash

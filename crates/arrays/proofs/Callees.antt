@@ -2,7 +2,7 @@
 use mathlib.Core.Path.{_≡_}
 use prog.Routine.{Env}
 use borrow.Fn.World.{World}
-use Rattle.walks.proofs.Walk.{Callee, Knows, under}
+use Rattle.slices.proofs.Derivation.{Callee, Knows, under}
 use Rattle.arrays.proofs.at_most.Kinds as at-most-Kinds
 use Rattle.arrays.proofs.at_most.Reads as at-most-Reads
 use Rattle.arrays.proofs.at_most.Symbol as at-most-Symbol

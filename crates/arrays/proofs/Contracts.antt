@@ -3,7 +3,7 @@ use Rattle.broker.specs.Lent.{buildFor}
 use Rattle.lent.specs.Answers.{AnswersCheck, AnswersSend, AnswersWalk, AnswersUpdate}
 use Rattle.lent.proofs.Rows.{trade}
 use Rattle.lent.proofs.UistRows.{trade-costs, built, uist-broker}
-use Rattle.walks.proofs.Walk.{Contract, false, _≡_, [], _∷_, R, pV, rV, pShrS, pMutS}
+use Rattle.slices.proofs.Derivation.{Contract, false, _≡_, [], _∷_, R, pV, rV, pShrS, pMutS}
 use Rattle.arrays.specs.Arrays.{tradableIn, fetchedIn, weightsIn, ordersIn, lentOf, pastLent, blankEvents, blankOrders}
 use Rattle.arrays.proofs.Rows.{lists, orders, checked-list, updated-list, sent-list, walked-list}
 

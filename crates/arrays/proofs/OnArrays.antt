@@ -20,9 +20,9 @@ use Rattle.reads.specs.declared.uist.ListRead.{ListRead}
 use Rattle.reads.proofs.Lending as Lending
 use Rattle.reads.proofs.Lending.{Read}
 use Rattle.reads.proofs.RowTypes.{list-read}
-use Rattle.walks.proofs.Walk as Walk
-use Rattle.walks.proofs.Walk.{Kin, R, ty, ptrTo, pV, rV, pA, rA, pNum, rNum, Base, same, hasV, freeV, hasA, makeA, freeA, rd, fr, gn, loc, drop, copies, units, begins, over, forgets, arrTo, joins-mut, lends-array, array-back, returns, Knows, _&_, no-more, mut-slice, by-val, by-num, by-mut-slice, calls, int, Contract, callee, Task, Derives, Owes, Runs}
-use Rattle.walks.proofs.Walk.{_≡_, refl, ℕ, false, List, [], _∷_, length, take, Ty, w64, erased, mut, tyInt, tyArray, Sc, sInt}
+use Rattle.slices.proofs.Derivation as Derivation
+use Rattle.slices.proofs.Derivation.{Kin, R, ty, ptrTo, pV, rV, pA, rA, pNum, rNum, Base, same, hasV, freeV, hasA, makeA, freeA, rd, fr, gn, loc, drop, copies, units, begins, over, forgets, arrTo, joins-mut, lends-array, array-back, returns, Knows, _&_, no-more, mut-slice, by-val, by-num, by-mut-slice, calls, int, Contract, callee, Task, Derives, Owes, Runs}
+use Rattle.slices.proofs.Derivation.{_≡_, refl, ℕ, false, List, [], _∷_, length, take, Ty, w64, erased, mut, tyInt, tyArray, Sc, sInt}
 use Rattle.arrays.specs.Reads.{ReadOn}
 use Rattle.arrays.proofs.Lengths.{within, count-within}
 use Rattle.arrays.proofs.Answers.{read-answers}
@@ -158,4 +158,4 @@ module _ (x : OnArray) where
       )
 
   pub runs : (o : Base) → Kn o → Runs goal o
-  runs o kn = Walk.runs goal derived asked o kn
+  runs o kn = Derivation.runs goal derived asked o kn

@@ -20,7 +20,7 @@ use Rattle.arrays.proofs.read.CostsRead as Co
 use Rattle.arrays.proofs.read.CostsRead.Laws as Co′
 use Rattle.lent.proofs.UistRows as Uist
 use Rattle.reads.proofs.RowTypes.{list-read}
-use Rattle.walks.proofs.Walk.{Kin, struct}
+use Rattle.slices.proofs.Derivation.{Kin, struct}
 
 abbrev pub lists : Kin
 lists = struct Li.the-type Li′.the-laws Li′.the-copy Li′.the-plain (record { tradable = []; first = 0; fetched = []; second = 0; weights = []; third = 0; room = 0 }) tt

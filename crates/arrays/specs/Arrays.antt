@@ -2,12 +2,11 @@
 use Prim.Native.Nat.{ℕ, min}
 use mathlib.Core.List.{List}
 use lib.ListN.{take, drop, replicate}
-use Rattle.market.specs.Orders.{eventOf}
+use Rattle.market.specs.Orders.{blankOrder, eventOf}
 use Rattle.market.specs.declared.order.Order.{Order}
 use Rattle.market.specs.declared.order.OrderEvent.{OrderEvent}
 use Rattle.market.specs.declared.quote.Quote.{Quote}
 use Rattle.market.specs.declared.weight.Weight.{Weight}
-use Rattle.broker.specs.Send.{blankOrder}
 use Rattle.arrays.specs.declared.Lists.{Lists}
 use Rattle.arrays.specs.declared.Orders.{Orders}
 

@@ -57,18 +57,15 @@ pub fn at_most(n: usize, most: usize) -> usize
 pub fn no_events() -> [OrderEvent; 1024]
     ensures { λ r. ⌜ r ≡ blankEvents ⌝ }
 {
-    let o = Order::market_sell(0, 0.0);
-    let e = OrderEvent {
-        order: o,
-        number: 0,
-    };
+    let o = Order::blank();
+    let e = OrderEvent { order: o, fault: 0 };
     [e; 1024]
 }
 
 pub fn no_orders() -> [Order; 1024]
     ensures { λ r. ⌜ r ≡ blankOrders ⌝ }
 {
-    let o = Order::market_sell(0, 0.0);
+    let o = Order::blank();
     [o; 1024]
 }
 

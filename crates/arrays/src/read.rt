@@ -2,7 +2,7 @@
 // first rows of one that it makes.
 ghost use mathlib.Core.Path.{_≡_};
 ghost use Prim.Native.Nat.{min};
-ghost use Rattle.broker.specs.State.{moneyOf};
+ghost use Rattle.portfolio.specs.State.{moneyOf};
 ghost use Rattle.reads.specs.Rows.{positionRows, holdingRows, pendingRows, quoteRows, costRows};
 ghost use Rattle.arrays.specs.Reads.{ReadOn, blankPositions, blankHoldings, blankQuotes, blankCosts};
 use crate::at_most;

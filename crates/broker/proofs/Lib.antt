@@ -1,10 +1,8 @@
 -- The laws that the functions' proofs cite.
 pub mod Drawing
-pub mod Symbols
 pub mod Sending
 pub mod Cashing
 pub mod Selling
 pub mod Settling
-pub mod Weighing
 pub mod Walking
 pub mod Updating

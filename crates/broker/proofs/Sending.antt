@@ -15,33 +15,35 @@ use lib.Seq.{drop-cons, getD-take}
 use Rattle.lists.specs.Lists.{over, All}
 use Rattle.lists.proofs.Over.{over-more}
 use Rattle.costs.specs.declared.TradeCosts.{TradeCosts}
-use Rattle.market.specs.Numbers.{Test, _draws_, drawn, unlessDrawn}
-use Rattle.market.specs.Orders.{eventOf, orderTests}
+use Rattle.market.specs.Faults.{Test, _draws_, drawn, unlessDrawn}
+use Rattle.market.specs.Orders.{blankOrder, isMarket, eventOf, orderTests}
 use Rattle.market.specs.Quotes.{noQuote}
 use Rattle.market.specs.Trades.{rowIf}
 use Rattle.market.specs.declared.order.OrderType.the-variants.{MarketSell}
 use Rattle.market.specs.declared.order.Order.{Order}
 use Rattle.market.specs.declared.quote.Quote.{Quote}
 use Rattle.market.specs.declared.table.Table.{Table}
-use Rattle.market.proofs.Numbers.{Numbered, order-numbered, append-none, none-drawn}
-use Rattle.exchange.specs.Insert.{roomTests, takenOne, joined}
+use Rattle.market.proofs.Faults.{Numbered, order-numbered, append-none, none-drawn}
+use Rattle.exchange.specs.State.{roomOf}
+use Rattle.exchange.specs.Insert.{takenOne, joined}
 use Rattle.exchange.specs.declared.state.Booked.{Booked}
 use Rattle.exchange.specs.declared.state.Counts.{Counts}
 use Rattle.exchange.specs.declared.state.UistV1.{UistV1}
-use Rattle.exchange.proofs.Counting.{Sound, room-facts}
+use Rattle.exchange.proofs.Counting.{Sound, room-facts, Free}
 use Rattle.rules.specs.Amounts.{isZero}
 use Rattle.rules.specs.Money.{unlessZero}
-use Rattle.rules.specs.Sends.{isMarket, poor, short, missing, sendTestsAt}
-use Rattle.broker.specs.State.{moneyOf}
-use Rattle.broker.specs.Send.{quoteIn, eventAt, eventFor, pendingAfter, takenBy, sentOne, sentAll, eventsOf, noEvents, blankOrder, listed, SendsFit, sendAllOf}
-use Rattle.broker.specs.declared.state.Funds.{Funds}
-use Rattle.broker.specs.declared.state.Portfolio.{Portfolio}
+use Rattle.rules.specs.Sends.{exceedsCash, exceedsHolding, missing, sendTestsAt}
+use Rattle.portfolio.specs.State.{moneyOf}
+use Rattle.portfolio.specs.Lists.{listed}
+use Rattle.broker.specs.Send.{quoteIn, eventAt, eventFor, pendingAfter, takenBy, sentOne, sentAll, eventsOf, noEvents, SendsFit, sendAllOf}
+use Rattle.portfolio.specs.declared.state.Funds.{Funds}
+use Rattle.portfolio.specs.declared.state.Portfolio.{Portfolio}
 use Rattle.broker.specs.declared.state.UistBroker.{UistBroker}
 use Rattle.market.specs.declared.order.OrderEvent.{OrderEvent}
 use Rattle.broker.specs.declared.send.Latest.{Latest}
 use Rattle.broker.specs.declared.send.Latest.the-variants.{At, Unquoted}
 use Rattle.broker.specs.declared.send.AtSymbol.{AtSymbol}
-use Rattle.broker.specs.declared.send.OrderList.{OrderList}
+use Rattle.portfolio.specs.declared.list.OrderList.{OrderList}
 use Rattle.broker.specs.declared.send.SentAll.{SentAll}
 use Rattle.broker.proofs.Drawing.{drawn-first, drawn-past}
 
@@ -70,7 +72,7 @@ module _ (o : Order) (failed : Bool) (cash : Float) (x : AtSymbol) (c : Counts) 
   holding = unlessZero (x .holding)
 
   abbrev later : List Test
-  later = sendTestsAt failed cash quote holding o ++ roomTests c
+  later = sendTestsAt failed cash quote holding o ++ roomOf c
 
   event-by : (e : OrderEvent) (m : ℕ) → e ≡ eventOf o m → drawn (orderTests o ++ later) ≡ m → e ≡ eventAt o failed cash x c
   unfolding eventAt
@@ -100,22 +102,22 @@ module _ (o : Order) (failed : Bool) (cash : Float) (x : AtSymbol) (c : Counts) 
 
       -- past 6
       module _ (m : isMarket (o .kind) ≡ true) where
-        past-limit : drawn (orderTests o ++ later) ≡ drawn ((poor cash o quote draws 7) ∷ (short o holding draws 8) ∷ (isZero (o .shares) draws 9) ∷ roomTests c)
+        past-limit : drawn (orderTests o ++ later) ≡ drawn ((exceedsCash cash o quote draws 7) ∷ (exceedsHolding o holding draws 8) ∷ (isZero (o .shares) draws 9) ∷ roomOf c)
         past-limit = past-order z ∙ fails-first _ _ _ f ∙ fails-first _ _ _ (ap missing there) ∙ fails-first _ _ _ (ap not m)
 
-        poor-by : (b : Bool) → poor cash o (some q) ≡ b → poor cash o quote ≡ b
-        poor-by b h = ap (poor cash o) there ∙ h
+        poor-by : (b : Bool) → exceedsCash cash o (some q) ≡ b → exceedsCash cash o quote ≡ b
+        poor-by b h = ap (exceedsCash cash o) there ∙ h
 
-        pub event-poor : (e : OrderEvent) → e ≡ eventOf o 7 → poor cash o (some q) ≡ true → e ≡ eventAt o failed cash x c
-        event-poor e a h = event-by e 7 a (past-limit ∙ holds-first _ _ _ (poor-by true h))
+        pub event-cash : (e : OrderEvent) → e ≡ eventOf o 7 → exceedsCash cash o (some q) ≡ true → e ≡ eventAt o failed cash x c
+        event-cash e a h = event-by e 7 a (past-limit ∙ holds-first _ _ _ (poor-by true h))
 
-        pub event-short : (e : OrderEvent) → e ≡ eventOf o 8 → poor cash o (some q) ≡ false → short o holding ≡ true → e ≡ eventAt o failed cash x c
-        event-short e a h s = event-by e 8 a (past-limit ∙ fails-first _ _ _ (poor-by false h) ∙ holds-first _ _ _ s)
+        pub event-holding : (e : OrderEvent) → e ≡ eventOf o 8 → exceedsCash cash o (some q) ≡ false → exceedsHolding o holding ≡ true → e ≡ eventAt o failed cash x c
+        event-holding e a h s = event-by e 8 a (past-limit ∙ fails-first _ _ _ (poor-by false h) ∙ holds-first _ _ _ s)
 
-        pub event-zero : (e : OrderEvent) → e ≡ eventOf o 9 → poor cash o (some q) ≡ false → short o holding ≡ false → isZero (o .shares) ≡ true → e ≡ eventAt o failed cash x c
+        pub event-zero : (e : OrderEvent) → e ≡ eventOf o 9 → exceedsCash cash o (some q) ≡ false → exceedsHolding o holding ≡ false → isZero (o .shares) ≡ true → e ≡ eventAt o failed cash x c
         event-zero e a h s k = event-by e 9 a (past-limit ∙ fails-first _ _ _ (poor-by false h) ∙ fails-first _ _ _ s ∙ holds-first _ _ _ k)
 
-        pub event-room : (e : OrderEvent) (j : ℕ) → e ≡ eventOf o j → poor cash o (some q) ≡ false → short o holding ≡ false → isZero (o .shares) ≡ false → j ≡ drawn (roomTests c) →
+        pub event-room : (e : OrderEvent) (j : ℕ) → e ≡ eventOf o j → exceedsCash cash o (some q) ≡ false → exceedsHolding o holding ≡ false → isZero (o .shares) ≡ false → j ≡ drawn (roomOf c) →
             e ≡ eventAt o failed cash x c
         event-room e j a h s k y =
             event-by e j a (past-limit ∙ fails-first _ _ _ (poor-by false h) ∙ fails-first _ _ _ s ∙ fails-first _ _ _ k ∙ sym y)
@@ -128,7 +130,7 @@ atSymbol p s = record { present = getD (p .latest .present) s false; quote = get
 
 module _ (b : UistBroker) (o : Order) where
   abbrev testsOn : Option Quote → Option Float → List Test
-  testsOn quote holding = orderTests o ++ sendTestsAt (b .portfolio .funds .failed) (b .portfolio .funds .cash) quote holding o ++ roomTests (b .exchange .counts)
+  testsOn quote holding = orderTests o ++ sendTestsAt (b .portfolio .funds .failed) (b .portfolio .funds .cash) quote holding o ++ roomOf (b .exchange .counts)
 
   -- a symbol above 255 draws 1, whatever else is read
   draws-1 : (l : List Test) → ltb (o .symbol) 256 ≡ false → drawn ((ltb 255 (o .symbol) draws 1) ∷ l) ≡ 1
@@ -147,13 +149,13 @@ module _ (b : UistBroker) (o : Order) where
   event-at = ap (eventOf o) (same-by (ltb (o .symbol) 256) refl)
 
   -- an order that draws no number passed 10 and 11
-  room-past : (quote : Option Quote) (holding : Option Float) → drawn (testsOn quote holding) ≡ 0 → drawn (roomTests (b .exchange .counts)) ≡ 0
+  room-past : (quote : Option Quote) (holding : Option Float) → drawn (testsOn quote holding) ≡ 0 → drawn (roomOf (b .exchange .counts)) ≡ 0
   room-past quote holding e =
       let f = b .portfolio .funds in
       let a = append-none (orderTests o) _ (order-numbered o) e in
-      append-none (sendTestsAt (f .failed) (f .cash) quote holding o) (roomTests (b .exchange .counts)) (send-numbered (f .failed) (f .cash) quote holding o) (a .1) .1
+      append-none (sendTestsAt (f .failed) (f .cash) quote holding o) (roomOf (b .exchange .counts)) (send-numbered (f .failed) (f .cash) quote holding o) (a .1) .1
 
-  pub room-drawn : eventFor b o .number ≡ 0 → drawn (roomTests (b .exchange .counts)) ≡ 0
+  pub room-drawn : eventFor b o .fault ≡ 0 → drawn (roomOf (b .exchange .counts)) ≡ 0
   unfolding eventFor
   room-drawn e = room-past (moneyOf (b .portfolio) .latest (o .symbol)) (moneyOf (b .portfolio) .held (o .symbol)) e
 
@@ -167,30 +169,30 @@ module _ (b : UistBroker) (o : Order) where
   kept-by zero h = absurd (h refl)
   kept-by (suc n) h = refl
 
-  pub sent-taken-by : eventFor b o .number ≡ 0 → takenBy b o ≡ sentOne b o
+  pub sent-taken-by : eventFor b o .fault ≡ 0 → takenBy b o ≡ sentOne b o
   unfolding sentOne
-  sent-taken-by z = taken-by (eventFor b o .number) z
+  sent-taken-by z = taken-by (eventFor b o .fault) z
 
-  pub sent-refused : (eventFor b o .number ≡ 0 → ⊥) → b ≡ sentOne b o
+  pub sent-refused : (eventFor b o .fault ≡ 0 → ⊥) → b ≡ sentOne b o
   unfolding sentOne
-  sent-refused h = kept-by (eventFor b o .number) h
+  sent-refused h = kept-by (eventFor b o .fault) h
 
 -- ---- what sends keep of the counts
 
-module _ (P : Counts → Type 0) (one : (c : Counts) → P c → drawn (roomTests c) ≡ 0 → P (takenOne c)) where
+module _ (P : Counts → Type 0) (one : (c : Counts) → P c → drawn (roomOf c) ≡ 0 → P (takenOne c)) where
   keeps-by : (b : UistBroker) (o : Order) (n : ℕ) → (n ≡ 0 → P (takenOne (b .exchange .counts))) → P (b .exchange .counts) → P (unlessDrawn n (takenBy b o) b .exchange .counts)
   keeps-by b o zero t p = t refl
   keeps-by b o (suc n) t p = p
 
   pub sent-keeps : (b : UistBroker) (o : Order) → P (b .exchange .counts) → P (sentOne b o .exchange .counts)
   unfolding sentOne
-  sent-keeps b o p = keeps-by b o (eventFor b o .number) (λ z. one (b .exchange .counts) p (room-drawn b o z)) p
+  sent-keeps b o p = keeps-by b o (eventFor b o .fault) (λ z. one (b .exchange .counts) p (room-drawn b o z)) p
 
   pub sent-all-keeps : (b : UistBroker) (l : List Order) → P (b .exchange .counts) → P (sentAll b l .exchange .counts)
   sent-all-keeps b [] p = p
   sent-all-keeps b (o ∷ l) p = sent-all-keeps (sentOne b o) l (sent-keeps b o p)
 
-one-sound : (c : Counts) → Sound c → drawn (roomTests c) ≡ 0 → Sound (takenOne c)
+one-sound : (c : Counts) → Sound c → drawn (roomOf c) ≡ 0 → Sound (takenOne c)
 one-sound c s z =
     let r = room-facts c s z in
     record { together = omega (arith, r .places); bounded = omega (arith, r .rows); numbers = omega (arith, s .numbers); logs = omega (arith, s .logs) }
@@ -201,21 +203,16 @@ sent-sound = sent-keeps Sound one-sound
 pub sent-all-sound : (b : UistBroker) (l : List Order) → Sound (b .exchange .counts) → Sound (sentAll b l .exchange .counts)
 sent-all-sound = sent-all-keeps Sound one-sound
 
--- the counts where one more order fits
-pub record OneFits (c : Counts) : Type 0 where
-  pub places : c .resting + c .waits < 1024
-  pub rows : c .taken < c .room
-
-pub one-fits : (c : Counts) → SendsFit c → drawn (roomTests c) ≡ 0 → OneFits c
+pub one-fits : (c : Counts) → SendsFit c → drawn (roomOf c) ≡ 0 → Free c
 one-fits c s e =
     let a = none-drawn (eqb (c .taken) (c .room)) 9 _ e in
     let b = none-drawn (eqb (c .resting + c .waits) 1024) 10 _ (a .1) in
     let t = eqb-false (c .taken) (c .room) (a .0) in
     let n = eqb-false (c .resting + c .waits) 1024 (b .0) in
-    record { places = omega (arith, s .places); rows = omega (arith, s .rows) }
+    record { place = omega (arith, s .places); row = omega (arith, s .rows) }
 
-taken-fits : (c : Counts) → SendsFit c → drawn (roomTests c) ≡ 0 → SendsFit (takenOne c)
-taken-fits c s z = let r = one-fits c s z in record { places = omega (arith, r .places); rows = omega (arith, r .rows) }
+taken-fits : (c : Counts) → SendsFit c → drawn (roomOf c) ≡ 0 → SendsFit (takenOne c)
+taken-fits c s z = let r = one-fits c s z in record { places = omega (arith, r .place); rows = omega (arith, r .row) }
 
 pub sent-fits : (b : UistBroker) (o : Order) → SendsFit (b .exchange .counts) → SendsFit (sentOne b o .exchange .counts)
 sent-fits = sent-keeps SendsFit taken-fits
@@ -233,7 +230,7 @@ one-taken-by b o (suc n) = omega arith
 
 one-taken : (b : UistBroker) (o : Order) → sentOne b o .exchange .counts .taken ≤ b .exchange .counts .taken + 1
 unfolding sentOne
-one-taken b o = one-taken-by b o (eventFor b o .number)
+one-taken b o = one-taken-by b o (eventFor b o .fault)
 
 pub sent-taken : (b : UistBroker) (l : List Order) → sentAll b l .exchange .counts .taken ≤ b .exchange .counts .taken + length l
 sent-taken b [] = omega arith
@@ -261,14 +258,14 @@ module _ (b : UistBroker) (o : Order) (e : OrderEvent)
   pub event-for : e ≡ eventFor b o
   event-for = a ∙ event-at b o
 
-  number-for : eventFor b o .number ≡ e .number
-  number-for = ap (λ (x : OrderEvent). x .number) (sym event-for)
+  number-for : eventFor b o .fault ≡ e .fault
+  number-for = ap (λ (x : OrderEvent). x .fault) (sym event-for)
 
   -- an order that draws no number has a place in the book and a row in the log
-  pub fits-here : SendsFit (b .exchange .counts) → e .number ≡ 0 → OneFits (b .exchange .counts)
+  pub fits-here : SendsFit (b .exchange .counts) → e .fault ≡ 0 → Free (b .exchange .counts)
   fits-here s z = one-fits (b .exchange .counts) s (room-drawn b o (number-for ∙ z))
 
-  pub takes-one : (x : UistV1) (f : Funds) (p : Float) → e .number ≡ 0 → x ≡ joined (b .exchange) o →
+  pub takes-one : (x : UistV1) (f : Funds) (p : Float) → e .fault ≡ 0 → x ≡ joined (b .exchange) o →
       p ≡ pendingAfter o (getD (b .portfolio .funds .awaited) (o .symbol % 256) false) (getD (b .portfolio .funds .pending) (o .symbol % 256) nan) →
       f ≡ expectingAs (b .portfolio .funds) o p → brokerOf (b .portfolio .latest) (b .portfolio .costs) x f ≡ sentOne b o
   takes-one x f p z j m g =
@@ -276,7 +273,7 @@ module _ (b : UistBroker) (o : Order) (e : OrderEvent)
       ∙ ap (λ (y : Funds). brokerOf (b .portfolio .latest) (b .portfolio .costs) (joined (b .exchange) o) y) (g ∙ ap (expectingAs (b .portfolio .funds) o) m)
       ∙ sent-taken-by b o (number-for ∙ z)
 
-  pub passes-one : (x : UistV1) (f : Funds) → (e .number ≡ 0 → ⊥) → x ≡ b .exchange → f ≡ b .portfolio .funds →
+  pub passes-one : (x : UistV1) (f : Funds) → (e .fault ≡ 0 → ⊥) → x ≡ b .exchange → f ≡ b .portfolio .funds →
       brokerOf (b .portfolio .latest) (b .portfolio .costs) x f ≡ sentOne b o
   passes-one x f h j g =
       ap (λ (y : UistV1). brokerOf (b .portfolio .latest) (b .portfolio .costs) y f) j
@@ -302,7 +299,7 @@ module _ (b : UistBroker) (o : Order) (e : OrderEvent)
   abbrev with : List Booked → Counts → List Float → List Bool → UistBroker
   with = brokerWith (b .portfolio .latest) (b .portfolio .costs) (b .portfolio .funds)
 
-  pub takes-parts : (book : List Booked) (c : Counts) (pending : List Float) (awaited : List Bool) (p : Float) → e .number ≡ 0 →
+  pub takes-parts : (book : List Booked) (c : Counts) (pending : List Float) (awaited : List Bool) (p : Float) → e .fault ≡ 0 →
       book ≡ joined (b .exchange) o .book → c ≡ joined (b .exchange) o .counts →
       p ≡ pendingAfter o (getD (b .portfolio .funds .awaited) (o .symbol % 256) false) (getD (b .portfolio .funds .pending) (o .symbol % 256) nan) →
       pending ≡ set (b .portfolio .funds .pending) (o .symbol % 256) p → awaited ≡ set (b .portfolio .funds .awaited) (o .symbol % 256) true →
@@ -310,7 +307,7 @@ module _ (b : UistBroker) (o : Order) (e : OrderEvent)
   takes-parts book c pending awaited p z j k m g h =
       takes-one b o e a _ _ p z (same-exchange _ (joined (b .exchange) o) j k) m (same-pending (b .portfolio .funds) _ _ _ _ g h)
 
-  pub passes-parts : (book : List Booked) (c : Counts) (pending : List Float) (awaited : List Bool) → (e .number ≡ 0 → ⊥) →
+  pub passes-parts : (book : List Booked) (c : Counts) (pending : List Float) (awaited : List Bool) → (e .fault ≡ 0 → ⊥) →
       book ≡ b .exchange .book → c ≡ b .exchange .counts → pending ≡ b .portfolio .funds .pending → awaited ≡ b .portfolio .funds .awaited →
       with book c pending awaited ≡ sentOne b o
   passes-parts book c pending awaited d j k g h =

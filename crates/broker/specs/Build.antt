@@ -3,7 +3,7 @@ use Prim.Native.Nat.{ℕ}
 use mathlib.Core.Bool.{not}
 use mathlib.Core.List.{List, [], _∷_}
 use lib.Dec.{ltb}
-use Rattle.market.specs.Numbers.{Test, _draws_, drawn, unlessDrawn}
+use Rattle.market.specs.Faults.{Test, _draws_, drawn, unlessDrawn}
 use Rattle.market.specs.Quotes.{emptyTable}
 use Rattle.market.specs.declared.table.Table.{Table}
 use Rattle.costs.specs.declared.BrokerCost.{BrokerCost}
@@ -11,7 +11,7 @@ use Rattle.costs.specs.declared.TradeCosts.{TradeCosts}
 use Rattle.costs.specs.Costs.{isFinite}
 use Rattle.costs.specs.Kept.{costsOf, noCosts}
 use Rattle.exchange.specs.State.{fresh}
-use Rattle.broker.specs.State.{noFunds}
+use Rattle.portfolio.specs.State.{noFunds}
 use Rattle.broker.specs.declared.state.UistBroker.{UistBroker}
 use Rattle.broker.specs.declared.build.Built.{Built}
 
@@ -28,7 +28,7 @@ unfoldable pub noBroker : UistBroker
 unfolding fresh
 noBroker =
     record {
-      exchange = record { book = fresh 0 .book; counts = record { resting = 0; waits = 0; given = 1; taken = 0; logged = 0; room = 0 } };
+      exchange = record { book = fresh 0 .book; counts = record { resting = 0; waits = 0; ids = 1; taken = 0; logged = 0; room = 0 } };
       portfolio = record { latest = emptyTable; funds = noFunds; costs = noCosts };
     }
 
@@ -37,10 +37,10 @@ abbrev pub freshBroker : TradeCosts → Table → ℕ → UistBroker
 freshBroker costs first room = record { exchange = fresh room; portfolio = record { latest = first; funds = noFunds; costs = costs } }
 
 -- 14, 2, then 1 to 3 for the first table
-abbrev pub buildNumber : TradeCosts → ℕ → ℕ
-buildNumber costs fault = let n = drawn (costTests (costs .count) (costsOf costs)) in unlessDrawn n fault n
+abbrev pub buildFault : TradeCosts → ℕ → ℕ
+buildFault costs fault = let n = drawn (costTests (costs .count) (costsOf costs)) in unlessDrawn n fault n
 
 unfoldable pub buildOf : TradeCosts → Table → ℕ → Built
 buildOf costs first room =
-    let n = buildNumber costs (first .fault) in
-    record { broker = unlessDrawn n (freshBroker costs first room) noBroker; number = n }
+    let n = buildFault costs (first .fault) in
+    record { broker = unlessDrawn n (freshBroker costs first room) noBroker; fault = n }

@@ -4,14 +4,14 @@ use mathlib.Core.List.{List, [], _∷_}
 use mathlib.Core.Path.{_≡_}
 use lib.Ieee.{Float}
 use lib.Ieee.Scale.{finite}
-use Rattle.market.specs.Numbers.{Test, _draws_, drawn}
+use Rattle.market.specs.Faults.{Test, _draws_, drawn}
 use Rattle.account.specs.Account.{Tells}
 use Rattle.account.specs.declared.BrokerCashEvent.{BrokerCashEvent}
 use Rattle.account.specs.declared.BrokerCashEvent.the-variants.{WithdrawSuccess, WithdrawFailure, DepositSuccess, OperationFailure, NotFinite, Broken}
-use Rattle.exchange.specs.State.{brokenOf}
 use Rattle.rules.specs.Amounts.{plus, minus, below}
+use Rattle.broker.specs.Lender.{broken}
 use Rattle.broker.specs.Send.{withFunds}
-use Rattle.broker.specs.declared.state.Funds.{Funds}
+use Rattle.portfolio.specs.declared.state.Funds.{Funds}
 use Rattle.broker.specs.declared.state.UistBroker.{UistBroker}
 use Rattle.broker.specs.declared.cash.CashMoved.{CashMoved}
 
@@ -30,7 +30,7 @@ answered b e = record { broker = b; event = e }
 -- 16, 2, 4; else what is done
 unfoldable pub cashMoved : UistBroker → Float → CashMoved → CashMoved
 cashMoved b a done =
-    cond (brokenOf (b .exchange .counts)) (answered b (Broken a))
+    cond (broken b) (answered b (Broken a))
     (cond (finite a)
     (cond (b .portfolio .funds .failed) (answered b (OperationFailure a)) done)
     (answered b (NotFinite a)))
@@ -48,11 +48,11 @@ withdrawOf b a =
 -- ---- the numbers of cash movers
 
 abbrev pub depositTests : UistBroker → Float → List Test
-depositTests b a = (brokenOf (b .exchange .counts) draws 16) ∷ (not (finite a) draws 2) ∷ (b .portfolio .funds .failed draws 4) ∷ []
+depositTests b a = (broken b draws 16) ∷ (not (finite a) draws 2) ∷ (b .portfolio .funds .failed draws 4) ∷ []
 
 abbrev pub withdrawTests : UistBroker → Float → List Test
 withdrawTests b a =
-    (brokenOf (b .exchange .counts) draws 16) ∷ (not (finite a) draws 2) ∷ (b .portfolio .funds .failed draws 4) ∷ (below (cashOf b) a draws 12) ∷ []
+    (broken b draws 16) ∷ (not (finite a) draws 2) ∷ (b .portfolio .funds .failed draws 4) ∷ (below (cashOf b) a draws 12) ∷ []
 
 -- what a mover answers: x, whose event tells the number that the tests draw, and the amount
 pub record MovesCash (x : CashMoved) (tests : List Test) (a : Float) (r : CashMoved) : Type 0 where

@@ -1,13 +1,10 @@
 -- The broker over lent lists: tables, weights and orders to be read; the log and the list for events to be written. Definitions only.
 use Prim.Native.Nat.{ℕ}
-use mathlib.Core.Bool.{not, _||_}
-use mathlib.Core.List.{List, [], _∷_, _++_}
-use mathlib.Core.Option.{Option}
-use lib.Dec.{eqb, ltb}
+use mathlib.Core.List.{List, _∷_, _++_}
 use lib.Ieee.{Float}
 use lib.ListN.{length}
-use Rattle.lists.specs.Lists.{over, stored, given}
-use Rattle.market.specs.Numbers.{Test, _draws_, drawn, unlessDrawn}
+use Rattle.lists.specs.Lists.{over, stored}
+use Rattle.market.specs.Faults.{Test, drawn, unlessDrawn, firstDrawn}
 use Rattle.market.specs.Orders.{zero64}
 use Rattle.market.specs.Quotes.{tableTests, tableOf, rowAt}
 use Rattle.market.specs.Weights.{weightRows}
@@ -16,16 +13,17 @@ use Rattle.market.specs.declared.quote.Quote.{Quote}
 use Rattle.market.specs.declared.trade.Trade.{Trade}
 use Rattle.market.specs.declared.weight.Weight.{Weight}
 use Rattle.costs.specs.declared.TradeCosts.{TradeCosts}
-use Rattle.exchange.specs.State.{brokenOf, restingOf}
+use Rattle.exchange.specs.State.{restingOf}
 use Rattle.exchange.specs.Tick.{tradesOf}
 use Rattle.rules.specs.Values.{totalValue}
-use Rattle.broker.specs.State.{moneyOf}
+use Rattle.rules.specs.Weights.{Plan}
+use Rattle.portfolio.specs.State.{moneyOf}
 use Rattle.broker.specs.Build.{buildOf}
 use Rattle.broker.specs.Send.{sentAll, eventsOf}
-use Rattle.broker.specs.Liquidate.{heldCount}
+use Rattle.portfolio.specs.Liquidate.{heldCount}
 use Rattle.broker.specs.Check.{checkedBy, bookedBy}
 use Rattle.broker.specs.Update.{planAfter, weighedBy}
-use Rattle.broker.specs.Walk.{lenderTests}
+use Rattle.broker.specs.Lender.{logTest, shortTest, lenderTests}
 use Rattle.broker.specs.declared.state.UistBroker.{UistBroker}
 use Rattle.broker.specs.declared.build.Built.{Built}
 use Rattle.market.specs.declared.order.OrderEvent.{OrderEvent}
@@ -33,24 +31,20 @@ use Rattle.market.specs.declared.order.OrderEvent.{OrderEvent}
 abbrev pub buildFor : TradeCosts → List Quote → List Trade → Built
 buildFor costs first log = buildOf costs (tableOf first) (length log)
 
--- 16 where the log's length is not that of the start, or the counts do not hold together
-abbrev pub logTest : UistBroker → List Trade → Test
-logTest b log = (not (eqb (length log) (b .exchange .counts .room)) || brokenOf (b .exchange .counts)) draws 16
-
 -- ---- a list of orders: 16, 15, then each order's own event
 
 abbrev pub sendListTests : UistBroker → List Order → List OrderEvent → List Test
-sendListTests b l e = lenderTests (b .exchange .counts) (length l) (length e)
+sendListTests b l e = lenderTests b (length l) (length e)
 
-unfoldable pub sendListNumber : UistBroker → List Order → List OrderEvent → ℕ
-sendListNumber b l e = drawn (sendListTests b l e)
+unfoldable pub sendListFault : UistBroker → List Order → List OrderEvent → ℕ
+sendListFault b l e = drawn (sendListTests b l e)
 
 unfoldable pub sendListBroker : UistBroker → List Order → List OrderEvent → UistBroker
-sendListBroker b l e = unlessDrawn (sendListNumber b l e) (sentAll b l) b
+sendListBroker b l e = unlessDrawn (sendListFault b l e) (sentAll b l) b
 
 -- the events stand in the first places of the lent list, its old entries past them
 unfoldable pub sendListEvents : UistBroker → List Order → List OrderEvent → List OrderEvent
-sendListEvents b l e = unlessDrawn (sendListNumber b l e) (over (eventsOf b l) e) e
+sendListEvents b l e = unlessDrawn (sendListFault b l e) (over (eventsOf b l) e) e
 
 -- ---- a check: 16, then the rows: tradable, fetched
 
@@ -80,16 +74,16 @@ heldAfter b t f log = unlessDrawn (checkFor b t f log) (heldCount (moneyOf (book
 -- ---- an update: 16, 15, then the rows: tradable, fetched, weights; then 13
 
 unfoldable pub updateFor : UistBroker → List Quote → List Quote → List Weight → List OrderEvent → List Trade → ℕ
-updateFor b t f w e log = drawn (logTest b log ∷ (ltb (length e) (length w) draws 15) ∷ ((tableTests 0 t ++ tableTests 0 f) ++ weightRows 0 w))
+updateFor b t f w e log = drawn (logTest b log ∷ shortTest (length w) (length e) ∷ ((tableTests 0 t ++ tableTests 0 f) ++ weightRows 0 w))
 
 abbrev pub checkedOn : UistBroker → List Quote → List Quote → UistBroker
 checkedOn b t f = checkedBy b (tableOf t) (tableOf f)
 
-abbrev pub planOn : UistBroker → List Quote → List Quote → List Weight → Option (List Order)
+abbrev pub planOn : UistBroker → List Quote → List Quote → List Weight → Plan
 planOn b t f w = planAfter (checkedOn b t f) w
 
-unfoldable pub updateNumberOf : UistBroker → List Quote → List Quote → List Weight → List OrderEvent → List Trade → ℕ
-updateNumberOf b t f w e log = let n = updateFor b t f w e log in unlessDrawn n (given (planOn b t f w) 13 (λ l. 0)) n
+unfoldable pub updateFaultOf : UistBroker → List Quote → List Quote → List Weight → List OrderEvent → List Trade → ℕ
+updateFaultOf b t f w e log = firstDrawn (updateFor b t f w e log) (planOn b t f w .fault)
 
 unfoldable pub updateBroker : UistBroker → List Quote → List Quote → List Weight → List OrderEvent → List Trade → UistBroker
 updateBroker b t f w e log = unlessDrawn (updateFor b t f w e log) (weighedBy (checkedOn b t f) w) b
@@ -97,13 +91,13 @@ updateBroker b t f w e log = unlessDrawn (updateFor b t f w e log) (weighedBy (c
 -- it answers `get_total_value` and the number of events
 unfoldable pub updateTotal : UistBroker → List Quote → List Quote → List Weight → List OrderEvent → List Trade → Float
 updateTotal b t f w e log =
-    unlessDrawn (updateFor b t f w e log) (given (planOn b t f w) zero64 (λ l. totalValue (moneyOf (checkedOn b t f .portfolio)))) zero64
+    unlessDrawn (updateFor b t f w e log) (unlessDrawn (planOn b t f w .fault) (totalValue (moneyOf (checkedOn b t f .portfolio))) zero64) zero64
 
 unfoldable pub updateSent : UistBroker → List Quote → List Quote → List Weight → List OrderEvent → List Trade → ℕ
-updateSent b t f w e log = unlessDrawn (updateFor b t f w e log) (given (planOn b t f w) 0 length) 0
+updateSent b t f w e log = unlessDrawn (updateFor b t f w e log) (length (planOn b t f w .orders)) 0
 
 unfoldable pub updateEvents : UistBroker → List Quote → List Quote → List Weight → List OrderEvent → List Trade → List OrderEvent
-updateEvents b t f w e log = unlessDrawn (updateFor b t f w e log) (given (planOn b t f w) e (λ l. over (eventsOf (checkedOn b t f) l) e)) e
+updateEvents b t f w e log = unlessDrawn (updateFor b t f w e log) (over (eventsOf (checkedOn b t f) (planOn b t f w .orders)) e) e
 
 unfoldable pub updateLog : UistBroker → List Quote → List Quote → List Weight → List OrderEvent → List Trade → List Trade
 updateLog b t f w e log = unlessDrawn (updateFor b t f w e log) (logWith b t log) log

@@ -7,17 +7,16 @@ use mathlib.Core.Option.{Option, none, some}
 use lib.Dec.{ltb}
 use lib.Ieee.{Float}
 use lib.Ieee.Scale.{finite}
-use Rattle.market.specs.Numbers.{_draws_, drawn, unlessDrawn}
+use Rattle.market.specs.Faults.{_draws_, drawn, unlessDrawn}
 use Rattle.market.specs.Orders.{zero64}
 use Rattle.market.specs.declared.quote.Quote.{Quote}
 use Rattle.costs.specs.declared.Impact.{Impact}
 use Rattle.costs.specs.Costs.{tradeImpactTotal, tradeCosts}
 use Rattle.costs.specs.Kept.{costsOf}
-use Rattle.exchange.specs.State.{brokenOf}
-use Rattle.exchange.specs.declared.state.Counts.{Counts}
 use Rattle.lists.specs.Lists.{given}
 use Rattle.rules.specs.Values.{valueOf, saleBudget, totalValue, liquidationValue}
-use Rattle.broker.specs.State.{moneyOf, amountIn}
+use Rattle.portfolio.specs.State.{moneyOf, amountIn}
+use Rattle.broker.specs.Lender.{broken}
 use Rattle.broker.specs.Send.{quoteIn}
 use Rattle.broker.specs.declared.state.UistBroker.{UistBroker}
 use Rattle.broker.specs.declared.read.BrokerState.{BrokerState}
@@ -31,30 +30,27 @@ use Rattle.broker.specs.declared.read.ImpactRead.{ImpactRead}
 
 -- ---- the numbers
 
-unfoldable pub brokerNumber : Counts → ℕ
-brokerNumber c = drawn ((brokenOf c draws 16) ∷ [])
+unfoldable pub symbolFault : UistBroker → ℕ → ℕ
+symbolFault b s = drawn ((broken b draws 16) ∷ (ltb 255 s draws 1) ∷ [])
 
-unfoldable pub symbolNumber : Counts → ℕ → ℕ
-symbolNumber c s = drawn ((brokenOf c draws 16) ∷ (ltb 255 s draws 1) ∷ [])
-
-unfoldable pub amountsNumber : Counts → Float → Float → ℕ
-amountsNumber c x y = drawn ((brokenOf c draws 16) ∷ ((not (finite x) || not (finite y)) draws 2) ∷ [])
+unfoldable pub amountsFault : UistBroker → Float → Float → ℕ
+amountsFault b x y = drawn ((broken b draws 16) ∷ ((not (finite x) || not (finite y)) draws 2) ∷ [])
 
 -- ---- the answers, where n is the number drawn
 
 pub record ReadsQuote (q : Option Quote) (n : ℕ) (r : QuoteRead) : Type 0 where
   pub latest : quoteIn (r .latest) ≡ unlessDrawn n q none
-  pub number : r .number ≡ n
+  pub fault : r .fault ≡ n
 
 pub record ReadsAmount (x : Option Float) (n : ℕ) (r : AmountRead) : Type 0 where
   pub amount : amountIn (r .amount) ≡ unlessDrawn n x none
-  pub number : r .number ≡ n
+  pub fault : r .fault ≡ n
 
 unfoldable pub readFloat : Float → ℕ → FloatRead
-readFloat x n = record { value = unlessDrawn n x zero64; number = n }
+readFloat x n = record { value = unlessDrawn n x zero64; fault = n }
 
 unfoldable pub readCount : ℕ → ℕ → CountRead
-readCount k n = record { count = unlessDrawn n k 0; number = n }
+readCount k n = record { count = unlessDrawn n k 0; fault = n }
 
 -- what a `BrokerState` says: is the broker Failed?
 abbrev pub failedIn : BrokerState → Bool
@@ -63,10 +59,10 @@ failedIn Failed = true
 
 pub record ReadsState (failed : Bool) (n : ℕ) (r : StateRead) : Type 0 where
   pub state : failedIn (r .state) ≡ failed
-  pub number : r .number ≡ n
+  pub fault : r .fault ≡ n
 
 unfoldable pub readImpact : Impact → ℕ → ImpactRead
-readImpact i n = record { impact = unlessDrawn n i (record { budget = zero64; price = zero64 }); number = n }
+readImpact i n = record { impact = unlessDrawn n i (record { budget = zero64; price = zero64 }); fault = n }
 
 -- ---- what is read
 

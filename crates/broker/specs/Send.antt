@@ -4,25 +4,25 @@ use mathlib.Core.Bool.{Bool, true, false, cond}
 use mathlib.Core.List.{List, [], _∷_, _++_, foldl}
 use mathlib.Core.Option.{Option, none, some}
 use lib.Ieee.{Float, nan}
-use lib.ListN.{getD, set, take, replicate}
+use lib.ListN.{getD, set, replicate}
 use Rattle.lists.specs.Lists.{over, given}
-use Rattle.market.specs.Numbers.{drawn, unlessDrawn}
-use Rattle.market.specs.Orders.{zero64, marketOrder, eventOf, orderTests}
+use Rattle.market.specs.Faults.{drawn, unlessDrawn}
+use Rattle.market.specs.Orders.{blankOrder, eventOf, orderTests}
 use Rattle.market.specs.Trades.{rowIf}
-use Rattle.market.specs.declared.order.OrderType.the-variants.{MarketSell}
 use Rattle.market.specs.declared.order.Order.{Order}
 use Rattle.market.specs.declared.quote.Quote.{Quote}
-use Rattle.exchange.specs.State.{brokenOf}
+use Rattle.exchange.specs.State.{roomOf}
 use Rattle.exchange.specs.Insert as Exchange
-use Rattle.exchange.specs.Insert.{roomTests, joined}
+use Rattle.exchange.specs.Insert.{joined}
 use Rattle.exchange.specs.Delete as Deletion
 use Rattle.exchange.specs.declared.state.Counts.{Counts}
 use Rattle.rules.specs.Amounts.{plus}
 use Rattle.rules.specs.Money.{unlessZero, effect}
 use Rattle.rules.specs.Sends.{sendTestsAt, sendTests}
-use Rattle.broker.specs.State.{pendingIf, moneyOf}
-use Rattle.broker.specs.declared.state.Funds.{Funds}
-use Rattle.broker.specs.declared.state.Portfolio.{Portfolio}
+use Rattle.portfolio.specs.State.{pendingIf, moneyOf}
+use Rattle.portfolio.specs.declared.state.Funds.{Funds}
+use Rattle.portfolio.specs.declared.state.Portfolio.{Portfolio}
+use Rattle.broker.specs.Lender.{broken}
 use Rattle.broker.specs.declared.state.UistBroker.{UistBroker}
 use Rattle.market.specs.declared.order.OrderEvent.{OrderEvent}
 use Rattle.broker.specs.declared.send.Sent.{Sent}
@@ -30,7 +30,6 @@ use Rattle.broker.specs.declared.send.BrokerDeleted.{BrokerDeleted}
 use Rattle.broker.specs.declared.send.Latest.{Latest}
 use Rattle.broker.specs.declared.send.Latest.the-variants.{At, Unquoted}
 use Rattle.broker.specs.declared.send.AtSymbol.{AtSymbol}
-use Rattle.broker.specs.declared.send.OrderList.{OrderList}
 use Rattle.broker.specs.declared.send.SentAll.{SentAll}
 
 -- what a `Latest` says
@@ -40,11 +39,11 @@ quoteIn Unquoted = none
 
 -- an order's event by what its tests read
 unfoldable pub eventAt : Order → Bool → Float → AtSymbol → Counts → OrderEvent
-eventAt o failed cash x c = eventOf o (drawn (orderTests o ++ sendTestsAt failed cash (rowIf (x .present) (x .quote)) (unlessZero (x .holding)) o ++ roomTests c))
+eventAt o failed cash x c = eventOf o (drawn (orderTests o ++ sendTestsAt failed cash (rowIf (x .present) (x .quote)) (unlessZero (x .holding)) o ++ roomOf c))
 
 -- an order's event: 1, 2, 4 to 9 by the rules on what the broker holds, 10 and 11 by the exchange's counts
 unfoldable pub eventFor : UistBroker → Order → OrderEvent
-eventFor b o = eventOf o (drawn (sendTests (moneyOf (b .portfolio)) (roomTests (b .exchange .counts)) o))
+eventFor b o = eventOf o (drawn (sendTests (moneyOf (b .portfolio)) (roomOf (b .exchange .counts)) o))
 
 -- a symbol's pending quantity with an order's effect
 unfoldable pub pendingAfter : Order → Bool → Float → Float
@@ -83,7 +82,7 @@ takenBy b o =
     }
 
 unfoldable pub sentOne : UistBroker → Order → UistBroker
-sentOne b o = unlessDrawn (eventFor b o .number) (takenBy b o) b
+sentOne b o = unlessDrawn (eventFor b o .fault) (takenBy b o) b
 
 -- a list's orders one after the other, and their events
 abbrev pub sentAll : UistBroker → List Order → UistBroker
@@ -93,18 +92,8 @@ unfoldable pub eventsOf : UistBroker → List Order → List OrderEvent
 eventsOf b [] = []
 eventsOf b (o ∷ l) = eventFor b o ∷ eventsOf (sentOne b o) l
 
-abbrev pub blankOrder : Order
-blankOrder = marketOrder MarketSell 0 zero64
-
 unfoldable pub noEvents : List OrderEvent
 noEvents = replicate 256 (eventOf blankOrder 0)
-
-unfoldable pub noOrders : OrderList
-noOrders = record { orders = replicate 256 blankOrder; count = 0 }
-
--- the orders of a list
-abbrev pub listed : OrderList → List Order
-listed l = take (l .count) (l .orders)
 
 -- what counts must obey for sends to be booked in place: a tick keeps it, where it need not keep all that 16 asks
 pub record SendsFit (c : Counts) : Type 0 where
@@ -117,7 +106,7 @@ sendAllOf b l = record { broker = sentAll b l; events = over (eventsOf b l) noEv
 -- 16, then the order's own event
 unfoldable pub sendOf : UistBroker → Order → Sent
 sendOf b o =
-    cond (brokenOf (b .exchange .counts))
+    cond (broken b)
     (record { broker = b; event = eventOf o 16 })
     (record { broker = sentOne b o; event = eventFor b o })
 
@@ -125,9 +114,9 @@ sendOf b o =
 unfoldable pub insertOf : UistBroker → Order → Sent
 insertOf b o =
     let r = Exchange.insertOf (b .exchange) o in
-    record { broker = record { exchange = r .exchange; portfolio = b .portfolio }; event = eventOf o (r .number) }
+    record { broker = record { exchange = r .exchange; portfolio = b .portfolio }; event = eventOf o (r .fault) }
 
 unfoldable pub deleteOf : UistBroker → ℕ → BrokerDeleted
 deleteOf b n =
     let r = Deletion.deleteOf (b .exchange) n in
-    record { broker = record { exchange = r .exchange; portfolio = b .portfolio }; number = r .number }
+    record { broker = record { exchange = r .exchange; portfolio = b .portfolio }; fault = r .fault }

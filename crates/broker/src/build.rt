@@ -1,11 +1,9 @@
 // The builder.
 ghost use mathlib.Core.Path.{_≡_};
-ghost use Rattle.market.specs.Numbers.{drawn};
+ghost use Rattle.market.specs.Faults.{drawn};
 ghost use Rattle.costs.specs.Kept.{costsOf};
 ghost use Rattle.costs.specs.Costs.{isFinite};
 ghost use Rattle.broker.specs.Build.{costTests, noBroker, buildOf};
-use crate::state::Funds;
-use crate::state::Portfolio;
 use crate::state::UistBroker;
 use costs::BrokerCost;
 use costs::TradeCosts;
@@ -13,12 +11,14 @@ use exchange::state::Counts;
 use exchange::state::UistV1;
 use market::table::ReadTable;
 use market::table::Table;
+use portfolio::state::Funds;
+use portfolio::state::Portfolio;
 
 // The broker, and the number drawn, or 0. Where a number is drawn no broker is made: what stands
 // there draws 16 at every call.
 pub struct Built {
     pub broker: UistBroker,
-    pub number: u32,
+    pub fault: u32,
 }
 
 fn is_finite(cost: BrokerCost) -> bool
@@ -60,7 +60,7 @@ fn no_broker() -> UistBroker
     let counts = Counts {
         resting: 0,
         waits: 0,
-        given: 1,
+        ids: 1,
         taken: 0,
         logged: 0,
         room: 0,
@@ -93,13 +93,13 @@ impl UistBroker {
         if fault != 0 {
             return Built {
                 broker: no_broker(),
-                number: fault,
+                fault: fault,
             };
         }
         if latest.fault != 0 {
             return Built {
                 broker: no_broker(),
-                number: latest.fault,
+                fault: latest.fault,
             };
         }
         let exchange = UistV1::new(room);
@@ -114,7 +114,7 @@ impl UistBroker {
                 exchange: exchange,
                 portfolio: portfolio,
             },
-            number: 0,
+            fault: 0,
         }
     }
 }

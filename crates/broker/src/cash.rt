@@ -27,11 +27,9 @@ impl UistBroker {
     pub fn deposit_cash(self, cash: f64) -> CashMoved
         ensures { λ r. ⌜ MovesCash (depositOf self cash) (depositTests self cash) cash r ⌝ }
     {
-        let exchange = self.exchange;
-        let counts = exchange.counts;
         let portfolio = self.portfolio;
         let funds = portfolio.funds;
-        if counts.broken() {
+        if self.fault() != 0 {
             return CashMoved {
                 broker: self,
                 event: BrokerCashEvent::Broken(cash),
@@ -60,11 +58,9 @@ impl UistBroker {
     pub fn withdraw_cash(self, cash: f64) -> CashMoved
         ensures { λ r. ⌜ MovesCash (withdrawOf self cash) (withdrawTests self cash) cash r ⌝ }
     {
-        let exchange = self.exchange;
-        let counts = exchange.counts;
         let portfolio = self.portfolio;
         let funds = portfolio.funds;
-        if counts.broken() {
+        if self.fault() != 0 {
             return CashMoved {
                 broker: self,
                 event: BrokerCashEvent::Broken(cash),

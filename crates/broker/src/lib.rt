@@ -2,11 +2,10 @@
 pub mod build;
 pub mod cash;
 pub mod check;
+pub mod lender;
 pub mod liquidate;
 pub mod read;
 pub mod send;
 pub mod state;
 pub mod update;
-pub mod value;
 pub mod walk;
-pub mod weigh;

@@ -1,23 +1,23 @@
 // Sends: an order goes to the exchange, and pending moves.
 ghost use mathlib.Core.Path.{_≡_};
-ghost use mathlib.Core.Bool.{cond};
 ghost use mathlib.Core.Option.{some};
 ghost use Rattle.market.specs.Orders.{eventOf};
 ghost use Rattle.market.specs.Trades.{rowIf};
-ghost use Rattle.exchange.specs.State.{brokenOf};
+ghost use Rattle.market.specs.Faults.{unlessDrawn};
 ghost use Rattle.rules.specs.Money.{unlessZero};
-ghost use Rattle.rules.specs.Sends.{isMarket, poor, short};
-ghost use Rattle.broker.specs.Send.{quoteIn, eventAt, pendingAfter, withPending, noEvents, noOrders, listed, SendsFit, sentAll, sendAllOf, sendOf, insertOf, deleteOf};
-use crate::state::Funds;
-use crate::state::Portfolio;
+ghost use Rattle.rules.specs.Sends.{exceedsCash, exceedsHolding};
+ghost use Rattle.portfolio.specs.Lists.{listed};
+ghost use Rattle.broker.specs.Send.{quoteIn, eventAt, pendingAfter, withPending, noEvents, SendsFit, sentAll, sendAllOf, sendOf, insertOf, deleteOf};
 use crate::state::UistBroker;
 use exchange::state::Booked;
 use exchange::state::Counts;
 use exchange::state::UistV1;
 use market::order::Order;
 use market::order::OrderEvent;
-use market::order::OrderType;
 use market::quote::Quote;
+use portfolio::list::OrderList;
+use portfolio::state::Funds;
+use portfolio::state::Portfolio;
 
 pub struct Sent {
     pub broker: UistBroker,
@@ -27,19 +27,13 @@ pub struct Sent {
 // The new state, and 16 or 0.
 pub struct BrokerDeleted {
     pub broker: UistBroker,
-    pub number: u32,
+    pub fault: u32,
 }
 
 // The latest quote of a symbol.
 pub enum Latest {
     At(Quote),
     Unquoted,
-}
-
-// Orders that a liquidation or the weights list: the first `count`.
-pub struct OrderList {
-    pub orders: [Order; 256],
-    pub count: usize,
 }
 
 // The new state, and the events of the orders sent in the first places.
@@ -55,12 +49,12 @@ pub struct AtSymbol {
     pub holding: f64,
 }
 
-fn event(order: Order, number: u32) -> OrderEvent
-    ensures { λ r. ⌜ r ≡ eventOf order number ⌝ }
+fn event(order: Order, fault: u32) -> OrderEvent
+    ensures { λ r. ⌜ r ≡ eventOf order fault ⌝ }
 {
     OrderEvent {
         order: order,
-        number: number,
+        fault: fault,
     }
 }
 
@@ -75,23 +69,9 @@ fn latest_of(x: AtSymbol) -> Latest
     }
 }
 
-fn is_market(o: Order) -> bool
-    ensures { λ r. ⌜ r ≡ isMarket (o .kind) ⌝ }
-{
-    let k = o.kind;
-    match k {
-        OrderType::MarketSell => true,
-        OrderType::MarketBuy => true,
-        OrderType::LimitSell => false,
-        OrderType::LimitBuy => false,
-        OrderType::StopSell => false,
-        OrderType::StopBuy => false,
-    }
-}
-
 // A buy that cash does not cover.
-fn is_poor(o: Order, cash: f64, q: Quote) -> bool
-    ensures { λ r. ⌜ r ≡ poor cash o (some q) ⌝ }
+fn exceeds_cash(o: Order, cash: f64, q: Quote) -> bool
+    ensures { λ r. ⌜ r ≡ exceedsCash cash o (some q) ⌝ }
 {
     if o.is_sell() {
         return false;
@@ -100,8 +80,8 @@ fn is_poor(o: Order, cash: f64, q: Quote) -> bool
 }
 
 // A sale of more than is held of a held symbol.
-fn is_short(o: Order, holding: f64) -> bool
-    ensures { λ r. ⌜ r ≡ short o (unlessZero holding) ⌝ }
+fn exceeds_holding(o: Order, holding: f64) -> bool
+    ensures { λ r. ⌜ r ≡ exceedsHolding o (unlessZero holding) ⌝ }
 {
     if !o.is_sell() {
         return false;
@@ -126,13 +106,13 @@ fn send_event(o: Order, failed: bool, cash: f64, x: AtSymbol, counts: Counts) ->
     let Latest::At(q) = latest_of(x) else {
         return event(o, 5);
     };
-    if !is_market(o) {
+    if !o.is_market() {
         return event(o, 6);
     }
-    if is_poor(o, cash, q) {
+    if exceeds_cash(o, cash, q) {
         return event(o, 7);
     }
-    if is_short(o, x.holding) {
+    if exceeds_holding(o, x.holding) {
         return event(o, 8);
     }
     if o.shares == 0.0 {
@@ -141,12 +121,19 @@ fn send_event(o: Order, failed: bool, cash: f64, x: AtSymbol, counts: Counts) ->
     event(o, counts.room_fault())
 }
 
-// 16, then the order's own event.
-fn sound_event(o: Order, failed: bool, cash: f64, x: AtSymbol, counts: Counts) -> OrderEvent
-    ensures { λ r. ⌜ r ≡ cond (brokenOf counts) (eventOf o 16) (eventAt o failed cash x counts) ⌝ }
+// The broker's 16, then the order's own event.
+fn sound_event(
+    fault: u32,
+    o: Order,
+    failed: bool,
+    cash: f64,
+    x: AtSymbol,
+    counts: Counts,
+) -> OrderEvent
+    ensures { λ r. ⌜ r ≡ unlessDrawn fault (eventAt o failed cash x counts) (eventOf o fault) ⌝ }
 {
-    if counts.broken() {
-        return event(o, 16);
+    if fault != 0 {
+        return event(o, fault);
     }
     send_event(o, failed, cash, x, counts)
 }
@@ -188,24 +175,9 @@ fn expecting(p: Portfolio, pending: [f64; 256], awaited: [bool; 256]) -> Portfol
 pub(crate) fn no_events() -> [OrderEvent; 256]
     ensures { λ r. ⌜ r ≡ noEvents ⌝ }
 {
-    let o = Order::market_sell(0, 0.0);
-    let blank = OrderEvent {
-        order: o,
-        number: 0,
-    };
+    let o = Order::blank();
+    let blank = OrderEvent { order: o, fault: 0 };
     [blank; 256]
-}
-
-impl OrderList {
-    pub fn none() -> OrderList
-        ensures { λ r. ⌜ r ≡ noOrders ⌝ }
-    {
-        let o = Order::market_sell(0, 0.0);
-        OrderList {
-            orders: [o; 256],
-            count: 0,
-        }
-    }
 }
 
 impl UistBroker {
@@ -238,14 +210,11 @@ impl UistBroker {
                 holding: funds.holding[at],
             };
             let e = send_event(o, funds.failed, funds.cash, x, counts);
-            if e.number == 0 {
-                let place = counts.resting + counts.waits;
-                book[place] = Booked {
-                    number: 0,
-                    order: o,
-                };
-                counts.waits = counts.waits + 1;
-                counts.taken = counts.taken + 1;
+            if e.fault == 0 {
+                let join = counts.join();
+                let place = join.at;
+                book[place] = Booked::waiting(o);
+                counts = join.counts;
                 pending[at] = pending_after(o, awaited[at], pending[at]);
                 awaited[at] = true;
             }
@@ -293,14 +262,11 @@ impl UistBroker {
                 holding: funds.holding[at],
             };
             let e = send_event(o, funds.failed, funds.cash, x, counts);
-            if e.number == 0 {
-                let place = counts.resting + counts.waits;
-                book[place] = Booked {
-                    number: 0,
-                    order: o,
-                };
-                counts.waits = counts.waits + 1;
-                counts.taken = counts.taken + 1;
+            if e.fault == 0 {
+                let join = counts.join();
+                let place = join.at;
+                book[place] = Booked::waiting(o);
+                counts = join.counts;
                 pending[at] = pending_after(o, awaited[at], pending[at]);
                 awaited[at] = true;
             }
@@ -331,8 +297,8 @@ impl UistBroker {
             quote: q,
             holding: funds.holding[at],
         };
-        let e = sound_event(order, funds.failed, funds.cash, x, counts);
-        if e.number != 0 {
+        let e = sound_event(self.fault(), order, funds.failed, funds.cash, x, counts);
+        if e.fault != 0 {
             return Sent {
                 broker: self,
                 event: e,
@@ -341,13 +307,10 @@ impl UistBroker {
         let mut book = exchange.book;
         let mut pending = funds.pending;
         let mut expected = funds.awaited;
-        let place = counts.resting + counts.waits;
-        book[place] = Booked {
-            number: 0,
-            order: order,
-        };
-        counts.waits = counts.waits + 1;
-        counts.taken = counts.taken + 1;
+        let join = counts.join();
+        let place = join.at;
+        book[place] = Booked::waiting(order);
+        counts = join.counts;
         pending[at] = pending_after(order, expected[at], pending[at]);
         expected[at] = true;
         let moved = expecting(portfolio, pending, expected);
@@ -376,7 +339,7 @@ impl UistBroker {
                 exchange: moved,
                 portfolio: portfolio,
             },
-            event: event(order, inserted.number),
+            event: event(order, inserted.fault),
         }
     }
 
@@ -392,7 +355,7 @@ impl UistBroker {
                 exchange: moved,
                 portfolio: portfolio,
             },
-            number: deleted.number,
+            fault: deleted.fault,
         }
     }
 }

@@ -1,25 +1,6 @@
-// The broker's state by role: the exchange, and the portfolio of latest quotes, funds and costs.
-ghost use mathlib.Core.Path.{_≡_};
-ghost use Rattle.broker.specs.State.{noFunds};
-use costs::TradeCosts;
+// The broker's state by role: the exchange, and the portfolio.
 use exchange::state::UistV1;
-use market::table::Table;
-
-// A symbol is held where its holding is not 0.0. A pending quantity is there where `awaited` says
-// so, since a sum of zero stays present.
-pub struct Funds {
-    pub holding: [f64; 256],
-    pub pending: [f64; 256],
-    pub awaited: [bool; 256],
-    pub cash: f64,
-    pub failed: bool,
-}
-
-pub struct Portfolio {
-    pub latest: Table,
-    pub funds: Funds,
-    pub costs: TradeCosts,
-}
+use portfolio::state::Portfolio;
 
 pub struct UistBroker {
     pub exchange: UistV1,
@@ -29,19 +10,4 @@ pub struct UistBroker {
 impl UistBroker {
     // What a check adds to a shortfall before it liquidates.
     pub const BUFFER: f64 = 1000.0;
-}
-
-impl Funds {
-    // Cash 0.0, nothing held, nothing pending.
-    pub fn none() -> Funds
-        ensures { λ r. ⌜ r ≡ noFunds ⌝ }
-    {
-        Funds {
-            holding: [0.0; 256],
-            pending: [0.0; 256],
-            awaited: [false; 256],
-            cash: 0.0,
-            failed: false,
-        }
-    }
 }

@@ -1,22 +1,19 @@
 // An update: a check, the walk over weights, and the sends of its orders.
 ghost use mathlib.Core.Path.{_≡_};
-ghost use mathlib.Core.Bool.{cond};
-ghost use mathlib.Core.List.{[]};
 ghost use lib.ListN.{length};
-ghost use Rattle.lists.specs.Lists.{given};
+ghost use Rattle.market.specs.Faults.{unlessDrawn};
 ghost use Rattle.market.specs.Orders.{zero64};
-ghost use Rattle.broker.specs.Send.{listed};
-ghost use Rattle.broker.specs.Weigh.{planIn};
-ghost use Rattle.broker.specs.Update.{updateNumber, updateRefused, Updates};
+ghost use Rattle.portfolio.specs.Lists.{listed};
+ghost use Rattle.broker.specs.Update.{updateFault, updateRefused, Updates};
+use crate::lender::list_fault;
 use crate::send;
-use crate::send::OrderList;
 use crate::state::UistBroker;
-use crate::weigh::Plan;
-use crate::weigh::Weights;
-use exchange::state::Counts;
+use market::fault;
 use market::order::OrderEvent;
 use market::table::ReadTable;
 use market::trade::Trade;
+use market::weight::Weights;
+use portfolio::list::OrderList;
 
 // How long the lent lists are: the log, the list for events, and the rows of weights.
 pub struct Lengths {
@@ -36,57 +33,21 @@ pub struct Updated {
     pub events: [OrderEvent; 256],
     pub sent: usize,
     pub total: f64,
-    pub number: u32,
-}
-
-// 16, 15, then the rows: tradable, fetched, weights.
-fn update_fault(counts: Counts, x: Lengths, tradable: u32, fetched: u32, weights: u32) -> u32
-    ensures { λ r. ⌜ r ≡ updateNumber counts x tradable fetched weights ⌝ }
-{
-    if x.log as u64 != counts.room {
-        return 16;
-    }
-    if counts.broken() {
-        return 16;
-    }
-    if x.events < x.weights {
-        return 15;
-    }
-    if tradable != 0 {
-        return tradable;
-    }
-    if fetched != 0 { fetched } else { weights }
-}
-
-// The orders that a plan sends: none where there is no value to weigh.
-fn planned(plan: Plan) -> OrderList
-    ensures { λ r. ⌜ listed r ≡ given (planIn plan) [] (λ l. l) ⌝ }
-{
-    let mut list = plan.list;
-    if !plan.found {
-        list.count = 0;
-    }
-    list
+    pub fault: u32,
 }
 
 // How many orders a list holds.
-fn listed_count(list: OrderList) -> usize
+pub(crate) fn listed_count(list: OrderList) -> usize
     ensures { λ r. ⌜ r ≡ length (listed list) ⌝ }
 {
     if list.count < 256 { list.count } else { 256 }
 }
 
-fn total_if(found: bool, total: f64) -> f64
-    ensures { λ r. ⌜ r ≡ cond found total zero64 ⌝ }
+// The total value, or 0.0 where a number is drawn.
+fn total_unless(fault: u32, total: f64) -> f64
+    ensures { λ r. ⌜ r ≡ unlessDrawn fault total zero64 ⌝ }
 {
-    if found { total } else { 0.0 }
-}
-
-// 13 where there is no value to weigh.
-fn plan_fault(found: bool) -> u32
-    ensures { λ r. ⌜ r ≡ cond found 0 13 ⌝ }
-{
-    if found { 0 } else { 13 }
+    if fault != 0 { 0.0 } else { total }
 }
 
 impl UistBroker {
@@ -96,9 +57,9 @@ impl UistBroker {
         tradable: ReadTable,
         fetched: ReadTable,
         log_length: usize,
-        number: u32,
+        fault: u32,
     ) -> Updated
-        ensures { λ r. ⌜ r ≡ updateRefused self (tradable .table) number ⌝ }
+        ensures { λ r. ⌜ r ≡ updateRefused self (tradable .table) fault ⌝ }
     {
         let checked = self.check(tradable, fetched, log_length);
         let trades = checked.trades;
@@ -111,7 +72,7 @@ impl UistBroker {
             events: events,
             sent: 0,
             total: 0.0,
-            number: number,
+            fault: fault,
         }
     }
 
@@ -124,24 +85,24 @@ impl UistBroker {
         weights: Weights,
         x: Lengths,
     ) -> Updated
-        ensures { λ r. ⌜ Updates self (tradable .table) (fetched .table) weights x (updateNumber (self .exchange .counts) x (tradable .table .fault) (fetched .table .fault) (weights .fault)) r ⌝ }
+        ensures { λ r. ⌜ Updates self (tradable .table) (fetched .table) weights x (updateFault self x (tradable .table .fault) (fetched .table .fault) (weights .fault)) r ⌝ }
     {
-        let exchange = self.exchange;
-        let number = update_fault(
-            exchange.counts,
-            x,
+        let rows = fault::first(
             tradable.fault(),
-            fetched.fault(),
-            weights.fault,
+            fault::first(fetched.fault(), weights.fault()),
         );
-        if number != 0 {
-            return self.refused_update(tradable, fetched, x.log, number);
+        let fault = fault::first(
+            self.fault_for(x.log),
+            fault::first(list_fault(x.weights, x.events), rows),
+        );
+        if fault != 0 {
+            return self.refused_update(tradable, fetched, x.log, fault);
         }
         let checked = self.check(tradable, fetched, x.log);
         let b = checked.broker;
         let portfolio = b.portfolio;
         let plan = portfolio.diff_against_target_weights(weights);
-        let list = planned(plan);
+        let list = plan.list;
         let sent = b.send_all(list);
         let moved = sent.broker;
         let written = sent.events;
@@ -153,8 +114,8 @@ impl UistBroker {
             first: checked.first,
             events: written,
             sent: listed_count(list),
-            total: total_if(plan.found, portfolio.get_total_value()),
-            number: plan_fault(plan.found),
+            total: total_unless(plan.fault, portfolio.get_total_value()),
+            fault: plan.fault,
         }
     }
 }

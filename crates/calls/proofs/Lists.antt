@@ -4,22 +4,25 @@ use native.Mathlib.Nat.{zero-add, add-zero, eq-or-lt-of-le}
 use native.Mathlib.Numerals.{add-one}
 use native.Mathlib.Omega.{arith}
 use mathlib.Core.Path.{_≡_, refl, sym, ap, _∙_}
-use mathlib.Core.Bool.{Bool, true, false, _&&_, _||_, cond}
+use mathlib.Core.Bool.{Bool, true, false, _&&_, _||_, Bool·beq}
 use mathlib.Core.List.{List, [], _∷_, _++_, map, foldl, append-nil, append-assoc, map-append}
 use mathlib.Core.Logic.{⊎-elim}
+use mathlib.Core.Option.{Option, none}
 use borrow.Author.Tests.{le-leb, lt-leb, ne-eqb, eqb-false}
 use lib.Dec.{eqb, leb}
 use lib.ListN.{length, drop, set, replicate, length-append, length-map, length-replicate}
-use lib.Seq.{drop-drop, drop-length}
+use lib.Seq.{drop-drop}
 use Rattle.lists.specs.Lists.{over}
 use Rattle.lists.proofs.Over.{over-more}
-use Rattle.words.specs.Words.{split, wordsOf, wordAt, bytesIn, sameBytes}
+use Rattle.words.specs.Numbers.{someIf}
+use Rattle.words.specs.Words.{wordsOf, wordAt, bytesIn, sameBytes}
 use Rattle.words.specs.declared.word.Word.{Word}
 use Rattle.words.proofs.Words.{ordered, next-of, none-of, first-of, rest-of}
 use Rattle.costs.specs.Kept.{noCosts}
 use Rattle.costs.specs.declared.TradeCosts.{TradeCosts}
 use Rattle.calls.specs.declared.list.RowKind.{RowKind}
-use Rattle.calls.specs.Lists.{Words, Listed, firstOf, restOf, firstWords, isSlash, untilSlash, hasSlash, behindSlash, isRow, areRows, noList, listOf, spanned, costStep, readCosts}
+use Rattle.calls.specs.declared.list.SpanRead.the-variants.{Of as Spanned}
+use Rattle.calls.specs.Lists.{Words, Listed, firstOf, restOf, firstWords, isSlash, untilSlash, hasSlash, behindSlash, isRow, areRows, listOf, wordsIn, spanned, costStep, readCosts}
 
 -- ---- the first words
 pub length-first : (n : ℕ) (ws : Words) → length (firstWords n ws) ≡ n
@@ -43,28 +46,27 @@ and-false true = refl
 and-false false = refl
 
 -- ---- a list whose words ks were passed, with the words ws left
-module _ (kind : RowKind) (most : ℕ) where
-  unfoldable pub after : Words → Words → Listed
+module _ (kind : RowKind) (most : ℕ) (before : Bool) where
+  unfoldable pub after : Words → Words → Option Listed
   after ks ws =
-      cond (areRows kind (untilSlash ws) && leb (length ks + length (untilSlash ws)) most)
-      (record { words = ks ++ untilSlash ws; slash = hasSlash ws; behind = behindSlash ws; ok = true })
-      noList
+      someIf (areRows kind (untilSlash ws) && leb (length ks + length (untilSlash ws)) most && Bool·beq (hasSlash ws) before)
+      (record { words = ks ++ untilSlash ws; behind = behindSlash ws })
 
-  at-first : (ws : Words) → after [] ws ≡ listOf kind most ws
+  at-first : (ws : Words) → after [] ws ≡ listOf kind most before ws
   unfolding listOf after
   at-first ws = rw (zero-add (length (untilSlash ws)))
 
   module _ (ks : Words) where
-    no-more : length ks ≤ most → record { words = ks; slash = false; behind = []; ok = true } ≡ after ks []
+    no-more : length ks ≤ most → someIf (Bool·beq false before) (record { words = ks; behind = [] }) ≡ after ks []
     unfolding after untilSlash hasSlash behindSlash areRows
     no-more h = rw (add-zero (length ks), le-leb (length ks) most h, append-nil ks)
 
     module _ (w : List ℕ) (ws : Words) where
-      at-slash : isSlash w ≡ true → length ks ≤ most → record { words = ks; slash = true; behind = ws; ok = true } ≡ after ks (w ∷ ws)
+      at-slash : isSlash w ≡ true → length ks ≤ most → someIf (Bool·beq true before) (record { words = ks; behind = ws }) ≡ after ks (w ∷ ws)
       unfolding after untilSlash hasSlash behindSlash areRows
       at-slash e h = rw (e, add-zero (length ks), le-leb (length ks) most h, append-nil ks)
 
-      too-many : isSlash w ≡ false → most ≤ length ks → noList ≡ after ks (w ∷ ws)
+      too-many : isSlash w ≡ false → most ≤ length ks → none ≡ after ks (w ∷ ws)
       unfolding after untilSlash hasSlash behindSlash areRows
       too-many e h =
           rw (
@@ -73,7 +75,7 @@ module _ (kind : RowKind) (most : ℕ) where
             and-false (isRow kind w && areRows kind (untilSlash ws)),
           )
 
-      no-row : isSlash w ≡ false → isRow kind w ≡ false → noList ≡ after ks (w ∷ ws)
+      no-row : isSlash w ≡ false → isRow kind w ≡ false → none ≡ after ks (w ∷ ws)
       unfolding after untilSlash hasSlash behindSlash areRows
       no-row e h = rw (e, h)
 
@@ -83,20 +85,15 @@ module _ (kind : RowKind) (most : ℕ) where
           let q : length (ks ++ (w ∷ [])) + length (untilSlash ws) ≡ length ks + suc (length (untilSlash ws)) = omega (arith, length-append ks (w ∷ [])) in
           rw (e, h, append-assoc ks (w ∷ []) (untilSlash ws), q)
 
--- no list, and no word behind it
-pub nothing-behind : (line : List ℕ) → spanned line (record { at = 0; count = 0; next = length line; slash = false; ok = false }) ≡ noList
-unfolding spanned firstWords wordsOf split
-nothing-behind line = ap (λ (l : List ℕ). record { words = []; slash = false; behind = wordsOf l; ok = false }) (drop-length line)
-
 -- the words of a list that were passed, up to a place of the line
-pub record Passed (line : List ℕ) (at : ℕ) (kind : RowKind) (most i count : ℕ) : Type 0 where
+pub record Passed (line : List ℕ) (at : ℕ) (kind : RowKind) (most : ℕ) (before : Bool) (i count : ℕ) : Type 0 where
   pub few : count ≤ most
   pub left : wordsOf (drop i line) ≡ drop count (wordsOf (drop at line))
-  pub same : after kind most (firstWords count (wordsOf (drop at line))) (wordsOf (drop i line)) ≡ listOf kind most (wordsOf (drop at line))
+  pub same : after kind most before (firstWords count (wordsOf (drop at line))) (wordsOf (drop i line)) ≡ listOf kind most before (wordsOf (drop at line))
 
-pub none-passed : (line : List ℕ) (at : ℕ) (kind : RowKind) (most : ℕ) → Passed line at kind most at 0
+pub none-passed : (line : List ℕ) (at : ℕ) (kind : RowKind) (most : ℕ) (before : Bool) → Passed line at kind most before at 0
 unfolding firstWords
-none-passed line at kind most = record { few = omega arith; left = refl; same = at-first kind most (wordsOf (drop at line)) }
+none-passed line at kind most before = record { few = omega arith; left = refl; same = at-first kind most before (wordsOf (drop at line)) }
 
 or-false : (t v : Bool) → (t || v) ≡ false → (t ≡ false) × (v ≡ false)
 or-false true v e = let z : _≡_ {A = ℕ} 0 1 = cc in let bad : ⊥ = omega arith in absurd bad
@@ -110,39 +107,46 @@ not-slash : isSlash [] ≡ false
 unfolding sameBytes
 not-slash = refl
 
-module _ (line : List ℕ) (at : ℕ) (kind : RowKind) (most i count : ℕ) (p : Passed line at kind most i count) {r : Word} (e : r ≡ wordAt line i) (slash : Bool) (s : slash ≡ isSlash (bytesIn line r)) where
+module _ (line : List ℕ) (at : ℕ) (kind : RowKind) (most : ℕ) (before : Bool) (i count : ℕ) (p : Passed line at kind most before i count) {r : Word} (e : r ≡ wordAt line i) (slash : Bool) (s : slash ≡ isSlash (bytesIn line r)) where
   abbrev ks : Words
   ks = firstWords count (wordsOf (drop at line))
 
   size : length ks ≡ count
   size = length-first count (wordsOf (drop at line))
 
-  abbrev ended : Bool → Words → Listed
-  ended b vs = record { words = ks; slash = b; behind = vs; ok = true }
+  abbrev ended : Bool → Words → Option Listed
+  ended b vs = someIf (Bool·beq b before) (record { words = ks; behind = vs })
 
   -- the list ends here: no word is left, or the word is a slash
-  at-line-end : r .from ≡ r .to → ended slash (wordsOf (drop (r .to) line)) ≡ listOf kind most (wordsOf (drop at line))
+  at-line-end : r .from ≡ r .to → ended slash (wordsOf (drop (r .to) line)) ≡ listOf kind most before (wordsOf (drop at line))
   at-line-end h =
       let none = none-of line i e (omega arith) in
       ap (λ (b : Bool). ended b (wordsOf (drop (r .to) line))) (s ∙ ap isSlash (first-of line i e ∙ ap firstOf none) ∙ not-slash)
       ∙ ap (ended false) (rest-of line i e ∙ ap restOf none)
-      ∙ no-more kind most ks (omega (arith, size, p .few))
-      ∙ ap (after kind most ks) (sym none)
+      ∙ no-more kind most before ks (omega (arith, size, p .few))
+      ∙ ap (after kind most before ks) (sym none)
       ∙ p .same
 
-  at-a-slash : slash ≡ true → r .from < r .to → ended slash (wordsOf (drop (r .to) line)) ≡ listOf kind most (wordsOf (drop at line))
+  at-a-slash : slash ≡ true → r .from < r .to → ended slash (wordsOf (drop (r .to) line)) ≡ listOf kind most before (wordsOf (drop at line))
   at-a-slash t h =
       ap (λ (b : Bool). ended b (wordsOf (drop (r .to) line))) t
-      ∙ at-slash kind most ks (bytesIn line r) (wordsOf (drop (r .to) line)) (sym s ∙ t) (omega (arith, size, p .few))
-      ∙ ap (after kind most ks) (sym (next-of line i e h))
+      ∙ at-slash kind most before ks (bytesIn line r) (wordsOf (drop (r .to) line)) (sym s ∙ t) (omega (arith, size, p .few))
+      ∙ ap (after kind most before ks) (sym (next-of line i e h))
       ∙ p .same
 
-  pub ends : (slash || eqb (r .from) (r .to)) ≡ true → spanned line (record { at = at; count = count; next = r .to; slash = slash; ok = true }) ≡ listOf kind most (wordsOf (drop at line))
-  unfolding spanned
+  ends : (slash || eqb (r .from) (r .to)) ≡ true → ended slash (wordsOf (drop (r .to) line)) ≡ listOf kind most before (wordsOf (drop at line))
   ends t =
       ⊎-elim at-line-end
       (λ h. at-a-slash (or-true slash (eqb (r .from) (r .to)) t (ne-eqb (r .from) (r .to) (λ q. omega arith))) h)
       (eq-or-lt-of-le (ordered line i e))
+
+  -- as it should, or not
+  pub ends-well : (slash || eqb (r .from) (r .to)) ≡ true → Bool·beq slash before ≡ true → spanned line (Spanned (record { at = at; count = count; next = r .to })) ≡ listOf kind most before (wordsOf (drop at line))
+  unfolding spanned wordsIn
+  ends-well t b = ap (λ (u : Bool). someIf u (record { words = ks; behind = wordsOf (drop (r .to) line) })) (sym b) ∙ ends t
+
+  pub ends-ill : (slash || eqb (r .from) (r .to)) ≡ true → Bool·beq slash before ≡ false → none ≡ listOf kind most before (wordsOf (drop at line))
+  ends-ill t b = ap (λ (u : Bool). someIf u (record { words = ks; behind = wordsOf (drop (r .to) line) })) (sym b) ∙ ends t
 
   -- another word is here
   module _ (t : (slash || eqb (r .from) (r .to)) ≡ false) where
@@ -157,31 +161,31 @@ module _ (line : List ℕ) (at : ℕ) (kind : RowKind) (most i count : ℕ) (p :
     here : wordsOf (drop i line) ≡ bytesIn line r ∷ wordsOf (drop (r .to) line)
     here = next-of line i e some-byte
 
-    pub many : most ≤ count → noList ≡ listOf kind most (wordsOf (drop at line))
+    pub many : most ≤ count → none ≡ listOf kind most before (wordsOf (drop at line))
     many h =
-        too-many kind most ks (bytesIn line r) (wordsOf (drop (r .to) line)) no-slash (omega (arith, size))
-        ∙ ap (after kind most ks) (sym here)
+        too-many kind most before ks (bytesIn line r) (wordsOf (drop (r .to) line)) no-slash (omega (arith, size))
+        ∙ ap (after kind most before ks) (sym here)
         ∙ p .same
 
-    pub unfit : isRow kind (bytesIn line r) ≡ false → noList ≡ listOf kind most (wordsOf (drop at line))
+    pub unfit : isRow kind (bytesIn line r) ≡ false → none ≡ listOf kind most before (wordsOf (drop at line))
     unfit h =
-        no-row kind most ks (bytesIn line r) (wordsOf (drop (r .to) line)) no-slash h
-        ∙ ap (after kind most ks) (sym here)
+        no-row kind most before ks (bytesIn line r) (wordsOf (drop (r .to) line)) no-slash h
+        ∙ ap (after kind most before ks) (sym here)
         ∙ p .same
 
     first-here : firstOf (drop count (wordsOf (drop at line))) ≡ bytesIn line r
     first-here = ap firstOf (sym (p .left)) ∙ sym (first-of line i e)
 
-    pub passed-more : count < most → isRow kind (bytesIn line r) ≡ true → Passed line at kind most (r .to) (count + 1)
+    pub passed-more : count < most → isRow kind (bytesIn line r) ≡ true → Passed line at kind most before (r .to) (count + 1)
     passed-more h q =
         record {
           few = omega arith;
           left = rest-of line i e ∙ ap restOf (p .left) ∙ drop-drop 1 count (wordsOf (drop at line));
           same =
-              ap (λ (vs : Words). after kind most vs (wordsOf (drop (r .to) line)))
+              ap (λ (vs : Words). after kind most before vs (wordsOf (drop (r .to) line)))
               (first-more count (wordsOf (drop at line)) ∙ ap (λ (w : List ℕ). ks ++ (w ∷ [])) first-here)
-              ∙ one-more kind most ks (bytesIn line r) (wordsOf (drop (r .to) line)) no-slash q
-              ∙ ap (after kind most ks) (sym here)
+              ∙ one-more kind most before ks (bytesIn line r) (wordsOf (drop (r .to) line)) no-slash q
+              ∙ ap (after kind most before ks) (sym here)
               ∙ p .same;
         }
 

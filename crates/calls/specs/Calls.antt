@@ -1,32 +1,30 @@
 -- What a line says: the forms of docs/SCENARIOS.md, "The calls", over the words of the line. A line of no form is malformed, and says
 -- nothing else. Definitions only.
 use Prim.Native.Nat.{ℕ}
-use mathlib.Core.Bool.{Bool, true, false, not, _&&_, _||_, cond}
+use mathlib.Core.Bool.{Bool, true, false, _||_, cond}
 use mathlib.Core.Path.{_≡_}
 use mathlib.Core.List.{List, [], map}
+use mathlib.Core.Option.{Option, none, some, Option·elim}
 use lib.Dec.{leb}
 use lib.Ieee.{Float}
 use lib.ListN.{drop}
-use Rattle.market.specs.Orders.{zero64}
+use Rattle.market.specs.Orders.{zero64, blankOrder}
 use Rattle.market.specs.declared.order.Order.{Order}
 use Rattle.market.specs.declared.quote.Quote.{Quote}
 use Rattle.market.specs.declared.weight.Weight.{Weight}
 use Rattle.costs.specs.declared.BrokerCost.{BrokerCost}
 use Rattle.words.specs.Words.{wordsOf, sameBytes, ascii}
-use Rattle.words.specs.Numbers.{wholeOf, symbolOf, floatOf}
-use Rattle.words.specs.declared.number.WholeRead.{WholeRead}
-use Rattle.words.specs.declared.number.SymbolRead.{SymbolRead}
-use Rattle.words.specs.declared.number.BitsRead.{BitsRead}
+use Rattle.words.specs.Numbers.{someIf, wholeOf, symbolOf, floatOf}
 use Rattle.rows.specs.Rows.{orderOf}
-use Rattle.rows.specs.declared.OrderRead.{OrderRead}
 use Rattle.calls.specs.declared.list.RowKind.the-variants.{Cost, Order as OrderRow, Quote as QuoteRow, Weight as WeightRow}
 use Rattle.calls.specs.declared.list.Span.{Span}
 use Rattle.calls.specs.declared.call.Call.{Call}
 use Rattle.calls.specs.declared.call.Room.{Room}
+use Rattle.calls.specs.declared.call.Room.the-variants.{Of as RoomOf, Malformed as NoRoom}
 use Rattle.calls.specs.declared.verb.Verb.{Verb}
 use Rattle.calls.specs.declared.verb.Verb.the-variants.{Blank, Malformed, New, Lend, Deposit, Withdraw, Liquidate, Send, Insert, SendList, Delete, Check, Walk, Update, GetQuote, GetPositionQty, GetPendingOrder, GetPositionValue, GetPositionLiquidationValue, CostBasis, GetPositions, GetQuotes, GetHoldings, GetPendingOrders, GetTradeCosts, GetTotalValue, GetLiquidationValue, GetCashBalance, Turnover, GetBrokerState, ExecutedTradeCount, TradeImpactTotal, CalculateTradeCosts, Floor, Ceil, State, Quiet, Full, Clock}
 use Rattle.calls.specs.Verbs.{verbOf}
-use Rattle.calls.specs.Lists.{Words, Listed, isEmpty, firstOf, restOf, onlyOf, listOf, spanned, orderIn, quoteIn, weightIn, costIn, blankOrder}
+use Rattle.calls.specs.Lists.{Words, isEmpty, firstOf, restOf, onlyOf, listOf, wordsIn, orderOrBlank, quoteOrBlank, weightOrBlank, costOrBlank}
 
 -- the lists of a line
 pub record Rows : Type 0 where
@@ -68,9 +66,12 @@ ordering v o =
 abbrev pub plainly : Verb → Said
 plainly v = saying v 0 0 0 0 noRows
 
--- what is said where the form is met, or a malformed line
+-- what is said where the form is met, or a malformed line: by a test, and by a value that was read or not
 unfoldable pub saidIf : Bool → Said → Said
 saidIf ok s = cond ok s (plainly Malformed)
+
+abbrev pub formed : {A : Type 0} → Option A → (A → Said) → Said
+formed o f = Option·elim o (plainly Malformed) f
 
 -- ---- a verb alone, or with one word that is the line's last
 
@@ -78,136 +79,97 @@ unfoldable pub saidAlone : Verb → Words → Said
 saidAlone v ws = saidIf (isEmpty ws) (plainly v)
 
 -- WHOLE
-abbrev pub wholeSaid : Verb → WholeRead → Said
-wholeSaid v x = saidIf (x .ok) (saying v 0 (x .value) 0 0 noRows)
-
 unfoldable pub saidWhole : Verb → Words → Said
-saidWhole v ws = wholeSaid v (wholeOf (onlyOf ws))
+saidWhole v ws = formed (wholeOf (onlyOf ws)) (λ n. saying v 0 n 0 0 noRows)
 
 -- LOG
-abbrev pub logSaid : Verb → WholeRead → Said
-logSaid v x = saidIf (x .ok) (saying v (x .value) 0 0 0 noRows)
-
 unfoldable pub saidLog : Verb → Words → Said
-saidLog v ws = logSaid v (wholeOf (onlyOf ws))
+saidLog v ws = formed (wholeOf (onlyOf ws)) (λ n. saying v n 0 0 0 noRows)
 
 -- SYMBOL
-abbrev pub symbolSaid : Verb → SymbolRead → Said
-symbolSaid v x = saidIf (x .ok) (saying v 0 0 (x .value) 0 noRows)
-
 unfoldable pub saidSymbol : Verb → Words → Said
-saidSymbol v ws = symbolSaid v (symbolOf (onlyOf ws))
+saidSymbol v ws = formed (symbolOf (onlyOf ws)) (λ symbol. saying v 0 0 symbol 0 noRows)
 
 -- FLOAT
-abbrev pub amountSaid : Verb → BitsRead → Said
-amountSaid v x = saidIf (x .ok) (amounting v (x .value) zero64 false)
-
 unfoldable pub saidAmount : Verb → Words → Said
-saidAmount v ws = amountSaid v (floatOf (onlyOf ws))
+saidAmount v ws = formed (floatOf (onlyOf ws)) (λ x. amounting v x zero64 false)
 
 -- ORDER
-abbrev pub orderSaid : Verb → OrderRead → Said
-orderSaid v x = saidIf (x .ok) (ordering v (x .order))
-
 unfoldable pub saidOrder : Verb → Words → Said
-saidOrder v ws = orderSaid v (orderOf (onlyOf ws))
+saidOrder v ws = formed (orderOf (onlyOf ws)) (λ order. ordering v order)
 
 -- ROOM: a WHOLE, at most 1,024
-abbrev pub roomIf : Bool → ℕ → Room
-roomIf ok n = cond ok (record { length = n; ok = true }) (record { length = 0; ok = false })
+abbrev pub roomFrom : Option ℕ → Option ℕ
+roomFrom none = none
+roomFrom (some n) = someIf (leb n 1024) n
 
-abbrev pub roomFrom : WholeRead → Room
-roomFrom x = roomIf (x .ok && leb (x .value) 1024) (x .value)
-
-abbrev pub roomSaid : Verb → Room → Said
-roomSaid v r = saidIf (r .ok) (saying v 0 0 0 (r .length) noRows)
+unfoldable pub roomOf : List ℕ → Option ℕ
+roomOf w = roomFrom (wholeOf w)
 
 unfoldable pub saidRoom : Verb → Words → Said
-saidRoom v ws = roomSaid v (roomFrom (wholeOf (onlyOf ws)))
+saidRoom v ws = formed (roomOf (onlyOf ws)) (λ room. saying v 0 0 0 room noRows)
 
 -- ---- two words or three
 
 -- QUANTITY VALUE
-abbrev pub quantitySaid : Verb → BitsRead → BitsRead → Said
-quantitySaid v x y = saidIf (x .ok && y .ok) (amounting v (x .value) (y .value) false)
-
 unfoldable pub saidQuantity : Verb → Words → Said
-saidQuantity v ws = quantitySaid v (floatOf (firstOf ws)) (floatOf (onlyOf (restOf ws)))
+saidQuantity v ws =
+    formed (floatOf (firstOf ws)) (λ quantity.
+    formed (floatOf (onlyOf (restOf ws))) (λ value.
+    amounting v quantity value false))
 
 -- BUDGET PRICE, and `buy` or `sell`
-abbrev pub sideSaid : Verb → BitsRead → BitsRead → Bool → Bool → Said
-sideSaid v x y buys sells = saidIf (x .ok && y .ok && (buys || sells)) (amounting v (x .value) (y .value) buys)
+abbrev pub sideSaid : Verb → Float → Float → Bool → Bool → Said
+sideSaid v budget price buys sells = saidIf (buys || sells) (amounting v budget price buys)
 
-abbrev pub sideNamed : Verb → BitsRead → BitsRead → List ℕ → Said
-sideNamed v x y w = sideSaid v x y (sameBytes w (ascii "buy")) (sameBytes w (ascii "sell"))
+abbrev pub sideNamed : Verb → Float → Float → List ℕ → Said
+sideNamed v budget price w = sideSaid v budget price (sameBytes w (ascii "buy")) (sameBytes w (ascii "sell"))
 
 unfoldable pub saidSide : Verb → Words → Said
-saidSide v ws = sideNamed v (floatOf (firstOf ws)) (floatOf (firstOf (restOf ws))) (onlyOf (restOf (restOf ws)))
+saidSide v ws =
+    formed (floatOf (firstOf ws)) (λ budget.
+    formed (floatOf (firstOf (restOf ws))) (λ price.
+    sideNamed v budget price (onlyOf (restOf (restOf ws)))))
 
 -- ---- lists: a slash ends each but the last
 
-abbrev pub isBefore : Listed → Bool
-isBefore l = l .ok && l .slash
-
-abbrev pub isLast : Listed → Bool
-isLast l = l .ok && not (l .slash)
-
 -- LOG COST* / QUOTE*
-abbrev pub newSaid : Verb → WholeRead → Listed → Listed → Said
-newSaid v x costs first =
-    saidIf (x .ok && isBefore costs && isLast first)
-    (saying v (x .value) 0 0 0 (record { costs = map costIn (costs .words); first = map quoteIn (first .words); fetched = []; weights = []; orders = [] }))
-
-abbrev pub newListed : Verb → WholeRead → Listed → Said
-newListed v x costs = newSaid v x costs (listOf QuoteRow 512 (costs .behind))
-
 unfoldable pub saidNew : Verb → Words → Said
-saidNew v ws = newListed v (wholeOf (firstOf ws)) (listOf Cost 32 (restOf ws))
+saidNew v ws =
+    formed (wholeOf (firstOf ws)) (λ log.
+    formed (listOf Cost 32 true (restOf ws)) (λ costs.
+    formed (listOf QuoteRow 512 false (costs .behind)) (λ first.
+    saying v log 0 0 0 (record { costs = map costOrBlank (costs .words); first = map quoteOrBlank (first .words); fetched = []; weights = []; orders = [] }))))
 
 -- QUOTE* / QUOTE*: the tradable table, then the fetched one
-abbrev pub checkSaid : Verb → Listed → Listed → Said
-checkSaid v first fetched =
-    saidIf (isBefore first && isLast fetched)
-    (saying v 0 0 0 0 (record { costs = []; first = map quoteIn (first .words); fetched = map quoteIn (fetched .words); weights = []; orders = [] }))
-
-abbrev pub checkListed : Verb → Listed → Said
-checkListed v first = checkSaid v first (listOf QuoteRow 512 (first .behind))
-
 unfoldable pub saidCheck : Verb → Words → Said
-saidCheck v ws = checkListed v (listOf QuoteRow 512 ws)
+saidCheck v ws =
+    formed (listOf QuoteRow 512 true ws) (λ first.
+    formed (listOf QuoteRow 512 false (first .behind)) (λ fetched.
+    saying v 0 0 0 0 (record { costs = []; first = map quoteOrBlank (first .words); fetched = map quoteOrBlank (fetched .words); weights = []; orders = [] })))
 
 -- ROOM WEIGHT*
-abbrev pub walkSaid : Verb → Room → Listed → Said
-walkSaid v r weights =
-    saidIf (r .ok && isLast weights)
-    (saying v 0 0 0 (r .length) (record { costs = []; first = []; fetched = []; weights = map weightIn (weights .words); orders = [] }))
-
 unfoldable pub saidWalk : Verb → Words → Said
-saidWalk v ws = walkSaid v (roomFrom (wholeOf (firstOf ws))) (listOf WeightRow 512 (restOf ws))
+saidWalk v ws =
+    formed (roomOf (firstOf ws)) (λ room.
+    formed (listOf WeightRow 512 false (restOf ws)) (λ weights.
+    saying v 0 0 0 room (record { costs = []; first = []; fetched = []; weights = map weightOrBlank (weights .words); orders = [] })))
 
 -- ROOM ORDER*
-abbrev pub ordersSaid : Verb → Room → Listed → Said
-ordersSaid v r orders =
-    saidIf (r .ok && isLast orders)
-    (saying v 0 0 0 (r .length) (record { costs = []; first = []; fetched = []; weights = []; orders = map orderIn (orders .words) }))
-
 unfoldable pub saidOrders : Verb → Words → Said
-saidOrders v ws = ordersSaid v (roomFrom (wholeOf (firstOf ws))) (listOf OrderRow 1024 (restOf ws))
+saidOrders v ws =
+    formed (roomOf (firstOf ws)) (λ room.
+    formed (listOf OrderRow 1024 false (restOf ws)) (λ orders.
+    saying v 0 0 0 room (record { costs = []; first = []; fetched = []; weights = []; orders = map orderOrBlank (orders .words) })))
 
 -- ROOM QUOTE* / QUOTE* / WEIGHT*
-abbrev pub updateSaid : Verb → Room → Listed → Listed → Listed → Said
-updateSaid v r first fetched weights =
-    saidIf (r .ok && isBefore first && isBefore fetched && isLast weights)
-    (saying v 0 0 0 (r .length) (record { costs = []; first = map quoteIn (first .words); fetched = map quoteIn (fetched .words); weights = map weightIn (weights .words); orders = [] }))
-
-abbrev pub updateFetched : Verb → Room → Listed → Listed → Said
-updateFetched v r first fetched = updateSaid v r first fetched (listOf WeightRow 512 (fetched .behind))
-
-abbrev pub updateListed : Verb → Room → Listed → Said
-updateListed v r first = updateFetched v r first (listOf QuoteRow 512 (first .behind))
-
 unfoldable pub saidUpdate : Verb → Words → Said
-saidUpdate v ws = updateListed v (roomFrom (wholeOf (firstOf ws))) (listOf QuoteRow 512 (restOf ws))
+saidUpdate v ws =
+    formed (roomOf (firstOf ws)) (λ room.
+    formed (listOf QuoteRow 512 true (restOf ws)) (λ first.
+    formed (listOf QuoteRow 512 true (first .behind)) (λ fetched.
+    formed (listOf WeightRow 512 false (fetched .behind)) (λ weights.
+    saying v 0 0 0 room (record { costs = []; first = map quoteOrBlank (first .words); fetched = map quoteOrBlank (fetched .words); weights = map weightOrBlank (weights .words); orders = [] })))))
 
 -- ---- the form of each verb
 
@@ -273,17 +235,17 @@ heard line c =
       room = c .room;
       rows =
           record {
-            costs = map costIn (spanned line (c .costs) .words);
-            first = map quoteIn (spanned line (c .first) .words);
-            fetched = map quoteIn (spanned line (c .fetched) .words);
-            weights = map weightIn (spanned line (c .weights) .words);
-            orders = map orderIn (spanned line (c .orders) .words);
+            costs = map costOrBlank (wordsIn line (c .costs));
+            first = map quoteOrBlank (wordsIn line (c .first));
+            fetched = map quoteOrBlank (wordsIn line (c .fetched));
+            weights = map weightOrBlank (wordsIn line (c .weights));
+            orders = map orderOrBlank (wordsIn line (c .orders));
           };
     }
 
 -- a call that is its verb alone
 abbrev pub noSpan : Span
-noSpan = record { at = 0; count = 0; next = 0; slash = false; ok = true }
+noSpan = record { at = 0; count = 0; next = 0 }
 
 unfoldable pub plainCall : Verb → Call
 plainCall v =
@@ -303,6 +265,11 @@ plainCall v =
       weights = noSpan;
       orders = noSpan;
     }
+
+-- what a `Room` says
+abbrev pub roomIn : Room → Option ℕ
+roomIn (RoomOf n) = some n
+roomIn NoRoom = none
 
 -- the first of the words as f reads it, and the place behind it, where the others stand
 pub record FirstRead {A : Type 0} (f : List ℕ → A) (ws : Words) (line : List ℕ) (x : A) (next : ℕ) : Type 0 where

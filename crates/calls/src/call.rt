@@ -2,19 +2,22 @@
 // malformed.
 ghost use mathlib.Core.Path.{_≡_};
 ghost use lib.ListN.{drop};
-ghost use Rattle.words.specs.Numbers.{wholeOf, floatOf};
+ghost use Rattle.words.specs.Numbers.{wholeIn, wholeOf, floatIn, floatOf};
 ghost use Rattle.words.specs.Words.{wordsOf, Holds};
 ghost use Rattle.calls.specs.declared.verb.Verb.the-variants.{Malformed};
 ghost use Rattle.calls.specs.Lists.{isEmpty, onlyOf};
-ghost use Rattle.calls.specs.Calls.{noSpan, plainCall, heard, said, FirstRead, roomFrom, saidAlone, saidWhole, saidLog, saidSymbol, saidAmount, saidOrder, saidRoom, saidQuantity, saidSide, saidNew, saidCheck, saidWalk, saidOrders, saidUpdate};
+ghost use Rattle.calls.specs.Calls.{noSpan, plainCall, heard, said, FirstRead, roomIn, roomFrom, saidAlone, saidWhole, saidLog, saidSymbol, saidAmount, saidOrder, saidRoom, saidQuantity, saidSide, saidNew, saidCheck, saidWalk, saidOrders, saidUpdate};
 use crate::list;
 use crate::list::RowKind;
 use crate::list::Span;
+use crate::list::SpanRead;
 use crate::verb;
 use crate::verb::Verb;
 use market::order::Order;
+use rows::OrderRead;
 use words::number;
-use words::number::BitsRead;
+use words::number::FloatRead;
+use words::number::SymbolRead;
 use words::number::WholeRead;
 use words::word;
 use words::word::Word;
@@ -44,8 +47,6 @@ fn no_span() -> Span
         at: 0,
         count: 0,
         next: 0,
-        slash: false,
-        ok: true,
     }
 }
 
@@ -61,7 +62,7 @@ pub fn plain(verb: Verb) -> Call
         amount: 0.0,
         second: 0.0,
         is_buy: false,
-        order: Order::market_sell(0, 0.0),
+        order: Order::blank(),
         room: 0,
         costs: none,
         first: none,
@@ -103,7 +104,7 @@ struct WholeAt {
 }
 
 fn whole_at(line: &[u8], at: usize) -> WholeAt
-    ensures { λ r. ⌜ FirstRead wholeOf (wordsOf (drop at (now (line .entry)))) (now (line .entry)) (r .read) (r .next) ⌝ }
+    ensures { λ r. ⌜ FirstRead wholeOf (wordsOf (drop at (now (line .entry)))) (now (line .entry)) (wholeIn (r .read)) (r .next) ⌝ }
 {
     let w = word::word_at(line, at);
     let from = w.from;
@@ -116,12 +117,12 @@ fn whole_at(line: &[u8], at: usize) -> WholeAt
 
 // A float, and where the words behind it are looked for.
 struct AmountAt {
-    read: BitsRead,
+    read: FloatRead,
     next: usize,
 }
 
 fn amount_at(line: &[u8], at: usize) -> AmountAt
-    ensures { λ r. ⌜ FirstRead floatOf (wordsOf (drop at (now (line .entry)))) (now (line .entry)) (r .read) (r .next) ⌝ }
+    ensures { λ r. ⌜ FirstRead floatOf (wordsOf (drop at (now (line .entry)))) (now (line .entry)) (floatIn (r .read)) (r .next) ⌝ }
 {
     let w = word::word_at(line, at);
     let from = w.from;
@@ -148,12 +149,11 @@ fn with_whole(line: &[u8], at: usize, verb: Verb) -> Call
     let w = only_at(line, at);
     let from = w.from;
     let to = w.to;
-    let x = number::whole(&line[from..to]);
-    if !x.ok {
+    let WholeRead::Of(x) = number::whole(&line[from..to]) else {
         return malformed();
-    }
+    };
     let mut c = plain(verb);
-    c.whole = x.value;
+    c.whole = x;
     c
 }
 
@@ -163,12 +163,11 @@ fn with_log(line: &[u8], at: usize, verb: Verb) -> Call
     let w = only_at(line, at);
     let from = w.from;
     let to = w.to;
-    let x = number::whole(&line[from..to]);
-    if !x.ok {
+    let WholeRead::Of(x) = number::whole(&line[from..to]) else {
         return malformed();
-    }
+    };
     let mut c = plain(verb);
-    c.log = x.value;
+    c.log = x;
     c
 }
 
@@ -178,12 +177,11 @@ fn with_symbol(line: &[u8], at: usize, verb: Verb) -> Call
     let w = only_at(line, at);
     let from = w.from;
     let to = w.to;
-    let x = number::symbol(&line[from..to]);
-    if !x.ok {
+    let SymbolRead::Of(x) = number::symbol(&line[from..to]) else {
         return malformed();
-    }
+    };
     let mut c = plain(verb);
-    c.symbol = x.value;
+    c.symbol = x;
     c
 }
 
@@ -193,12 +191,11 @@ fn with_amount(line: &[u8], at: usize, verb: Verb) -> Call
     let w = only_at(line, at);
     let from = w.from;
     let to = w.to;
-    let x = number::float(&line[from..to]);
-    if !x.ok {
+    let FloatRead::Of(x) = number::float(&line[from..to]) else {
         return malformed();
-    }
+    };
     let mut c = plain(verb);
-    c.amount = x.value;
+    c.amount = x;
     c
 }
 
@@ -208,37 +205,30 @@ fn with_order(line: &[u8], at: usize, verb: Verb) -> Call
     let w = only_at(line, at);
     let from = w.from;
     let to = w.to;
-    let x = rows::order(&line[from..to]);
-    if !x.ok {
+    let OrderRead::Of(x) = rows::order(&line[from..to]) else {
         return malformed();
-    }
+    };
     let mut c = plain(verb);
-    let o = x.order;
-    c.order = o;
+    c.order = x;
     c
 }
 
 // The length of a lent list, at most 1,024.
-struct Room {
-    length: usize,
-    ok: bool,
+enum Room {
+    Of(usize),
+    Malformed,
 }
 
 fn room_of(x: WholeRead) -> Room
-    ensures { λ r. ⌜ r ≡ roomFrom x ⌝ }
+    ensures { λ r. ⌜ roomIn r ≡ roomFrom (wholeIn x) ⌝ }
 {
-    if x.ok {
-        if x.value <= 1024 {
-            return Room {
-                length: x.value as usize,
-                ok: true,
-            };
-        }
+    let WholeRead::Of(n) = x else {
+        return Room::Malformed;
+    };
+    if n > 1024 {
+        return Room::Malformed;
     }
-    Room {
-        length: 0,
-        ok: false,
-    }
+    Room::Of(n as usize)
 }
 
 fn with_room(line: &[u8], at: usize, verb: Verb) -> Call
@@ -247,12 +237,11 @@ fn with_room(line: &[u8], at: usize, verb: Verb) -> Call
     let w = only_at(line, at);
     let from = w.from;
     let to = w.to;
-    let x = room_of(number::whole(&line[from..to]));
-    if !x.ok {
+    let Room::Of(room) = room_of(number::whole(&line[from..to])) else {
         return malformed();
-    }
+    };
     let mut c = plain(verb);
-    c.room = x.length;
+    c.room = room;
     c
 }
 
@@ -261,17 +250,19 @@ fn with_quantity(line: &[u8], at: usize, verb: Verb) -> Call
     ensures { λ r. ⌜ heard (now (line .entry)) r ≡ saidQuantity verb (wordsOf (drop at (now (line .entry)))) ⌝ }
 {
     let first = amount_at(line, at);
-    let x = first.read;
+    let read = first.read;
+    let FloatRead::Of(quantity) = read else {
+        return malformed();
+    };
     let w = only_at(line, first.next);
     let from = w.from;
     let to = w.to;
-    let y = number::float(&line[from..to]);
-    if !(x.ok & y.ok) {
+    let FloatRead::Of(value) = number::float(&line[from..to]) else {
         return malformed();
-    }
+    };
     let mut c = plain(verb);
-    c.amount = x.value;
-    c.second = y.value;
+    c.amount = quantity;
+    c.second = value;
     c
 }
 
@@ -281,19 +272,25 @@ fn with_side(line: &[u8], at: usize, verb: Verb) -> Call
 {
     let first = amount_at(line, at);
     let x = first.read;
+    let FloatRead::Of(budget) = x else {
+        return malformed();
+    };
     let second = amount_at(line, first.next);
     let y = second.read;
+    let FloatRead::Of(price) = y else {
+        return malformed();
+    };
     let w = only_at(line, second.next);
     let from = w.from;
     let to = w.to;
     let buys = word::is_name(&line[from..to], b"buy");
     let sells = word::is_name(&line[from..to], b"sell");
-    if !(x.ok & y.ok & (buys | sells)) {
+    if !(buys | sells) {
         return malformed();
     }
     let mut c = plain(verb);
-    c.amount = x.value;
-    c.second = y.value;
+    c.amount = budget;
+    c.second = price;
     c.is_buy = buys;
     c
 }
@@ -303,14 +300,18 @@ fn with_costs(line: &[u8], at: usize, verb: Verb) -> Call
     ensures { λ r. ⌜ heard (now (line .entry)) r ≡ saidNew verb (wordsOf (drop at (now (line .entry)))) ⌝ }
 {
     let log = whole_at(line, at);
-    let x = log.read;
-    let costs = list::span_at(line, log.next, RowKind::Cost, 32);
-    let first = list::span_at(line, costs.next, RowKind::Quote, 512);
-    if !(x.ok & (costs.ok & costs.slash) & (first.ok & !first.slash)) {
+    let read = log.read;
+    let WholeRead::Of(length) = read else {
         return malformed();
-    }
+    };
+    let SpanRead::Of(costs) = list::span_at(line, log.next, RowKind::Cost, 32, true) else {
+        return malformed();
+    };
+    let SpanRead::Of(first) = list::span_at(line, costs.next, RowKind::Quote, 512, false) else {
+        return malformed();
+    };
     let mut c = plain(verb);
-    c.log = x.value;
+    c.log = length;
     c.costs = costs;
     c.first = first;
     c
@@ -320,11 +321,13 @@ fn with_costs(line: &[u8], at: usize, verb: Verb) -> Call
 fn with_tables(line: &[u8], at: usize, verb: Verb) -> Call
     ensures { λ r. ⌜ heard (now (line .entry)) r ≡ saidCheck verb (wordsOf (drop at (now (line .entry)))) ⌝ }
 {
-    let tradable = list::span_at(line, at, RowKind::Quote, 512);
-    let fetched = list::span_at(line, tradable.next, RowKind::Quote, 512);
-    if !((tradable.ok & tradable.slash) & (fetched.ok & !fetched.slash)) {
+    let SpanRead::Of(tradable) = list::span_at(line, at, RowKind::Quote, 512, true) else {
         return malformed();
-    }
+    };
+    let SpanRead::Of(fetched) = list::span_at(line, tradable.next, RowKind::Quote, 512, false)
+    else {
+        return malformed();
+    };
     let mut c = plain(verb);
     c.first = tradable;
     c.fetched = fetched;
@@ -335,15 +338,16 @@ fn with_tables(line: &[u8], at: usize, verb: Verb) -> Call
 fn with_walk(line: &[u8], at: usize, verb: Verb) -> Call
     ensures { λ r. ⌜ heard (now (line .entry)) r ≡ saidWalk verb (wordsOf (drop at (now (line .entry)))) ⌝ }
 {
-    let room = whole_at(line, at);
-    let read = room.read;
-    let x = room_of(read);
-    let weights = list::span_at(line, room.next, RowKind::Weight, 512);
-    if !(x.ok & (weights.ok & !weights.slash)) {
+    let head = whole_at(line, at);
+    let read = head.read;
+    let Room::Of(room) = room_of(read) else {
         return malformed();
-    }
+    };
+    let SpanRead::Of(weights) = list::span_at(line, head.next, RowKind::Weight, 512, false) else {
+        return malformed();
+    };
     let mut c = plain(verb);
-    c.room = x.length;
+    c.room = room;
     c.weights = weights;
     c
 }
@@ -352,15 +356,16 @@ fn with_walk(line: &[u8], at: usize, verb: Verb) -> Call
 fn with_orders(line: &[u8], at: usize, verb: Verb) -> Call
     ensures { λ r. ⌜ heard (now (line .entry)) r ≡ saidOrders verb (wordsOf (drop at (now (line .entry)))) ⌝ }
 {
-    let room = whole_at(line, at);
-    let read = room.read;
-    let x = room_of(read);
-    let orders = list::span_at(line, room.next, RowKind::Order, 1024);
-    if !(x.ok & (orders.ok & !orders.slash)) {
+    let head = whole_at(line, at);
+    let read = head.read;
+    let Room::Of(room) = room_of(read) else {
         return malformed();
-    }
+    };
+    let SpanRead::Of(orders) = list::span_at(line, head.next, RowKind::Order, 1024, false) else {
+        return malformed();
+    };
     let mut c = plain(verb);
-    c.room = x.length;
+    c.room = room;
     c.orders = orders;
     c
 }
@@ -369,18 +374,23 @@ fn with_orders(line: &[u8], at: usize, verb: Verb) -> Call
 fn with_weights(line: &[u8], at: usize, verb: Verb) -> Call
     ensures { λ r. ⌜ heard (now (line .entry)) r ≡ saidUpdate verb (wordsOf (drop at (now (line .entry)))) ⌝ }
 {
-    let room = whole_at(line, at);
-    let read = room.read;
-    let x = room_of(read);
-    let first = list::span_at(line, room.next, RowKind::Quote, 512);
-    let fetched = list::span_at(line, first.next, RowKind::Quote, 512);
-    let weights = list::span_at(line, fetched.next, RowKind::Weight, 512);
-    let tables = x.ok & (first.ok & first.slash) & (fetched.ok & fetched.slash);
-    if !(tables & (weights.ok & !weights.slash)) {
+    let head = whole_at(line, at);
+    let read = head.read;
+    let Room::Of(room) = room_of(read) else {
         return malformed();
-    }
+    };
+    let SpanRead::Of(first) = list::span_at(line, head.next, RowKind::Quote, 512, true) else {
+        return malformed();
+    };
+    let SpanRead::Of(fetched) = list::span_at(line, first.next, RowKind::Quote, 512, true) else {
+        return malformed();
+    };
+    let SpanRead::Of(weights) = list::span_at(line, fetched.next, RowKind::Weight, 512, false)
+    else {
+        return malformed();
+    };
     let mut c = plain(verb);
-    c.room = x.length;
+    c.room = room;
     c.first = first;
     c.fetched = fetched;
     c.weights = weights;

@@ -2,11 +2,16 @@
 ghost use mathlib.Core.Path.{_≡_};
 ghost use lib.ListN.{drop};
 ghost use Rattle.words.specs.Words.{wordsOf};
-ghost use Rattle.calls.specs.Lists.{isSlash, isRow, noList, listOf, spanned, readOrders, readQuotes, readWeights, readCosts};
+ghost use Rattle.calls.specs.Lists.{isSlash, isRow, listOf, spanned, orderOrBlank, quoteOrBlank, weightOrBlank, costOrBlank, readOrders, readQuotes, readWeights, readCosts};
+use costs::BrokerCost;
 use costs::TradeCosts;
 use market::order::Order;
 use market::quote::Quote;
 use market::weight::Weight;
+use rows::CostRead;
+use rows::OrderRead;
+use rows::QuoteRead;
+use rows::WeightRead;
 use words::word;
 
 // What the words of a list are.
@@ -17,36 +22,40 @@ pub enum RowKind {
     Weight,
 }
 
-// A list: where its first word is looked for, how many rows it has, where the words after it are
-// looked for, whether a `/` ends it, and whether each word is of its form.
+// A list: where its first word is looked for, how many rows it has, and where the words after it
+// are looked for.
 pub struct Span {
     pub at: usize,
     pub count: usize,
     pub next: usize,
-    pub slash: bool,
-    pub ok: bool,
+}
+
+// The list that the words at a place are, or words that are none.
+pub enum SpanRead {
+    Of(Span),
+    Malformed,
 }
 
 fn is_row(w: &[u8], kind: RowKind) -> bool
     ensures { λ r. ⌜ r ≡ isRow kind (now (w .entry)) ⌝ }
 {
     match kind {
-        RowKind::Cost => {
-            let x = rows::cost(w);
-            x.ok
-        }
-        RowKind::Order => {
-            let x = rows::order(w);
-            x.ok
-        }
-        RowKind::Quote => {
-            let x = rows::quote(w);
-            x.ok
-        }
-        RowKind::Weight => {
-            let x = rows::weight(w);
-            x.ok
-        }
+        RowKind::Cost => match rows::cost(w) {
+            CostRead::Of(_) => true,
+            CostRead::Malformed => false,
+        },
+        RowKind::Order => match rows::order(w) {
+            OrderRead::Of(_) => true,
+            OrderRead::Malformed => false,
+        },
+        RowKind::Quote => match rows::quote(w) {
+            QuoteRead::Of(_) => true,
+            QuoteRead::Malformed => false,
+        },
+        RowKind::Weight => match rows::weight(w) {
+            WeightRead::Of(_) => true,
+            WeightRead::Malformed => false,
+        },
     }
 }
 
@@ -56,22 +65,10 @@ fn is_slash(w: &[u8]) -> bool
     word::is_name(w, b"/")
 }
 
-// No list: nothing is looked for behind it.
-fn no_list(line: &[u8]) -> Span
-    ensures { λ r. ⌜ spanned (now (line .entry)) r ≡ noList ⌝ }
-{
-    Span {
-        at: 0,
-        count: 0,
-        next: line.len(),
-        slash: false,
-        ok: false,
-    }
-}
-
-// The list of such rows that starts at `at`, of `most` rows at most.
-pub fn span_at(line: &[u8], at: usize, kind: RowKind, most: usize) -> Span
-    ensures { λ r. ⌜ spanned (now (line .entry)) r ≡ listOf kind most (wordsOf (drop at (now (line .entry)))) ⌝ }
+// The list of such rows that starts at `at`, of `most` rows at most, where a `/` ends it, or with
+// `before` false the line's end.
+pub fn span_at(line: &[u8], at: usize, kind: RowKind, most: usize, before: bool) -> SpanRead
+    ensures { λ r. ⌜ spanned (now (line .entry)) r ≡ listOf kind most before (wordsOf (drop at (now (line .entry)))) ⌝ }
 {
     let mut i = at;
     let mut count: usize = 0;
@@ -81,22 +78,67 @@ pub fn span_at(line: &[u8], at: usize, kind: RowKind, most: usize) -> Span
         let to = w.to;
         let slash = is_slash(&line[from..to]);
         if slash | (from == to) {
-            return Span {
+            if slash != before {
+                return SpanRead::Malformed;
+            }
+            return SpanRead::Of(Span {
                 at: at,
                 count: count,
                 next: to,
-                slash: slash,
-                ok: true,
-            };
+            });
         }
         if count >= most {
-            return no_list(line);
+            return SpanRead::Malformed;
         }
         if !is_row(&line[from..to], kind) {
-            return no_list(line);
+            return SpanRead::Malformed;
         }
         count = count + 1;
         i = to;
+    }
+}
+
+// The quote that a word is, or a blank one. (The words of a span are rows, so none of them is
+// read as a blank.)
+fn quote_or_blank(w: &[u8]) -> Quote
+    ensures { λ r. ⌜ r ≡ quoteOrBlank (now (w .entry)) ⌝ }
+{
+    match rows::quote(w) {
+        QuoteRead::Of(row) => row,
+        QuoteRead::Malformed => Quote::blank(),
+    }
+}
+
+// The weight that a word is, or a blank one.
+fn weight_or_blank(w: &[u8]) -> Weight
+    ensures { λ r. ⌜ r ≡ weightOrBlank (now (w .entry)) ⌝ }
+{
+    match rows::weight(w) {
+        WeightRead::Of(row) => row,
+        WeightRead::Malformed => Weight {
+            symbol: 0,
+            weight: 0.0,
+        },
+    }
+}
+
+// The order that a word is, or a blank one.
+fn order_or_blank(w: &[u8]) -> Order
+    ensures { λ r. ⌜ r ≡ orderOrBlank (now (w .entry)) ⌝ }
+{
+    match rows::order(w) {
+        OrderRead::Of(row) => row,
+        OrderRead::Malformed => Order::market_sell(0, 0.0),
+    }
+}
+
+// The cost that a word is, or a blank one.
+fn cost_or_blank(w: &[u8]) -> BrokerCost
+    ensures { λ r. ⌜ r ≡ costOrBlank (now (w .entry)) ⌝ }
+{
+    match rows::cost(w) {
+        CostRead::Of(row) => row,
+        CostRead::Malformed => BrokerCost::Flat(0.0),
     }
 }
 
@@ -115,9 +157,7 @@ pub fn quotes(line: &[u8], at: usize, n: usize) -> [Quote; 512]
         let w = word::word_at(line, at_word);
         let from = w.from;
         let to = w.to;
-        let x = rows::quote(&line[from..to]);
-        let q = x.quote;
-        list[i] = q;
+        list[i] = quote_or_blank(&line[from..to]);
         at_word = to;
         i = i + 1;
     }
@@ -142,9 +182,7 @@ pub fn weights(line: &[u8], at: usize, n: usize) -> [Weight; 512]
         let w = word::word_at(line, at_word);
         let from = w.from;
         let to = w.to;
-        let x = rows::weight(&line[from..to]);
-        let q = x.weight;
-        list[i] = q;
+        list[i] = weight_or_blank(&line[from..to]);
         at_word = to;
         i = i + 1;
     }
@@ -155,7 +193,7 @@ pub fn weights(line: &[u8], at: usize, n: usize) -> [Weight; 512]
 pub fn orders(line: &[u8], at: usize, n: usize) -> [Order; 1024]
     ensures { λ r. ⌜ r ≡ readOrders n (wordsOf (drop at (now (line .entry)))) ⌝ }
 {
-    let blank = Order::market_sell(0, 0.0);
+    let blank = Order::blank();
     let mut list: [Order; 1024] = [blank; 1024];
     let mut at_word = at;
     let mut i: usize = 0;
@@ -166,9 +204,7 @@ pub fn orders(line: &[u8], at: usize, n: usize) -> [Order; 1024]
         let w = word::word_at(line, at_word);
         let from = w.from;
         let to = w.to;
-        let x = rows::order(&line[from..to]);
-        let q = x.order;
-        list[i] = q;
+        list[i] = order_or_blank(&line[from..to]);
         at_word = to;
         i = i + 1;
     }
@@ -186,9 +222,7 @@ pub fn costs(line: &[u8], at: usize, n: usize) -> TradeCosts
         let w = word::word_at(line, at_word);
         let from = w.from;
         let to = w.to;
-        let x = rows::cost(&line[from..to]);
-        let c = x.cost;
-        list = list.with(c);
+        list = list.with(cost_or_blank(&line[from..to]));
         at_word = to;
         i = i + 1;
     }

@@ -2,14 +2,15 @@
 use mathlib.Core.Path.{refl}
 use lib.Ieee as Ieee
 use Rattle.floats.specs.Whole.{floorOf, ceilOf}
-use Rattle.market.specs.Numbers.{drawn}
-use Rattle.market.specs.Quotes.{emptyTable, tableFrom, tableOf}
+use Rattle.market.specs.Faults.{drawn}
+use Rattle.market.specs.Quotes.{emptyTable, tableOf}
+use Rattle.market.specs.Rows.{goodRows}
 use Rattle.market.specs.Trades.{tradeOn}
 use Rattle.costs.specs.Costs.{tradeImpact, tradeImpactTotal, calc, tradeCosts}
 use Rattle.costs.specs.Kept.{costsOf, noCosts, withCost}
 use Rattle.rules.specs.Money.{fetched, settled, expected, failedIf}
 use Rattle.rules.specs.Values.{symbols, totalValue, liquidationValue}
-use Rattle.rules.specs.Liquidation.{walk, salesFor, debitedBy}
+use Rattle.rules.specs.Liquidation.{salesFrom, salesFor, debitedBy}
 use Rattle.rules.specs.Weights.{sharesFor, orderFor, wanted, planOf}
 use Rattle.rules.specs.Basis.{basisStep, costBasis, turnover}
 use Rattle.ledger.specs.Ledger.{start, sendEvent, sendEvents, insertEvent, inserting, rescuing, callTests, acting, step, answerAs, run, answers}
@@ -30,7 +31,7 @@ unfolding Ieee.ofInt Ieee.sub Ieee.mul Ieee.ofBits floorOf ceilOf drawn tradeImp
 figures-hold = (refl, (refl, (refl, (refl, (refl, (refl, (refl, (refl, (refl, (refl, (refl, (refl, (refl, (refl, (refl, (refl, (refl, _)))))))))))))))))
 
 tables-hold : AllHold tables
-unfolding Ieee.le Ieee.ofInt Ieee.ofBits drawn tableOf tableFrom emptyTable
+unfolding Ieee.le Ieee.ofInt Ieee.ofBits drawn tableOf goodRows emptyTable
 tables-hold = (refl, (refl, (refl, (refl, (refl, (refl, (refl, (refl, (refl, (refl, _))))))))))
 
 trading-hold : AllHold trading
@@ -54,11 +55,11 @@ unfolding Ieee.le Ieee.ofInt Ieee.sub Ieee.div Ieee.ofBits basisStep costBasis t
 folding-hold = (refl, (refl, (refl, (refl, _))))
 
 liquidating-hold : AllHold liquidating
-unfolding Ieee.le Ieee.ofInt Ieee.sub Ieee.mul Ieee.div Ieee.ofBits ceilOf drawn tradeImpact tradeImpactTotal symbols liquidationValue expected walk salesFor debitedBy sendEvent Ledger.sending Ledger.liquidating callTests acting step answerAs
+unfolding Ieee.le Ieee.ofInt Ieee.sub Ieee.mul Ieee.div Ieee.ofBits ceilOf drawn tradeImpact tradeImpactTotal symbols liquidationValue expected salesFrom salesFor debitedBy sendEvent Ledger.sending Ledger.liquidating callTests acting step answerAs
 liquidating-hold = (refl, (refl, (refl, (refl, (refl, (refl, (refl, (refl, (refl, (refl, (refl, (refl, (refl, (refl, (refl, (refl, _))))))))))))))))
 
 checking-hold : AllHold checking
-unfolding Ieee.le Ieee.ofInt Ieee.sub Ieee.mul Ieee.div Ieee.ofBits ceilOf drawn tradeOn tradeImpactTotal symbols liquidationValue settled fetched expected failedIf walk salesFor debitedBy start sendEvent Ledger.sending insertEvent inserting Ledger.liquidating rescuing Ledger.checking callTests acting step answerAs run answers
+unfolding Ieee.le Ieee.ofInt Ieee.sub Ieee.mul Ieee.div Ieee.ofBits ceilOf drawn tradeOn tradeImpactTotal symbols liquidationValue settled fetched expected failedIf salesFrom salesFor debitedBy start sendEvent Ledger.sending insertEvent inserting Ledger.liquidating rescuing Ledger.checking callTests acting step answerAs run answers
 checking-hold = (refl, (refl, (refl, (refl, (refl, (refl, (refl, (refl, (refl, (refl, (refl, _)))))))))))
 
 weighing-hold : AllHold weighing

@@ -36,8 +36,8 @@ abbrev at : ℕ → ℕ → List Quote
 at bid ask = quote 1 (num bid) (num ask) ∷ []
 
 -- cash 3,000, and 40 shares that a direct insertion bought at 100
-abbrev short : List Call
-short = deposit (num 3000) ∷ insert (buy 1 40) ∷ check [] [] ∷ check (at 99 100) [] ∷ []
+abbrev exceedsHolding : List Call
+exceedsHolding = deposit (num 3000) ∷ insert (buy 1 40) ∷ check [] [] ∷ check (at 99 100) [] ∷ []
 
 -- cash 100, and 9 shares sent at 10 that traded at 20: -80 is left, and the liquidation value is 9 × 20 - 80 = 100, below 80 + 1,000
 abbrev failing : List Call
@@ -63,7 +63,7 @@ checking =
     (record { cash = num 0; failed = false; held = some (num 9); pending = some (negative 9 1); latest = some (quote 1 (num 9) (num 10)); waiting = [] }) ∷
     -- a shortfall of 4,000 - 3,000 and the 1,000: 2,000 / 100 = 20 shares are sent, at the bid 99.5 rounded up
     example 470
-    (seen (after (quote 1 (halves 199) (num 101) ∷ []) short))
+    (seen (after (quote 1 (halves 199) (num 101) ∷ []) exceedsHolding))
     (record { cash = negative 1000 1; failed = false; held = some (num 40); pending = some (negative 60 1); latest = some (quote 1 (halves 199) (num 101)); waiting = sell 1 20 ∷ [] }) ∷
     -- a shortfall that is not covered: Failed; 1,080 exceeds cash, which is kept
     example 471

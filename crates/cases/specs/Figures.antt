@@ -4,7 +4,7 @@ use mathlib.Core.List.{List, [], _∷_, map, foldl}
 use lib.ListN.{replicate}
 use lib.Ieee.{Float, nan, inf}
 use Rattle.floats.specs.Whole.{floorOf, ceilOf}
-use Rattle.market.specs.Numbers.{drawn}
+use Rattle.market.specs.Faults.{drawn}
 use Rattle.costs.specs.declared.BrokerCost.{BrokerCost}
 use Rattle.costs.specs.declared.BrokerCost.the-variants.{PerShare, PctOfValue, Flat}
 use Rattle.costs.specs.Costs.{tradeImpactTotal, tradeCosts, isFinite}

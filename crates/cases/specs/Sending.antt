@@ -5,7 +5,7 @@ use mathlib.Core.List.{List, [], _∷_, map}
 use mathlib.Core.Option.{Option, none, some}
 use lib.ListN.{replicate}
 use lib.Ieee.{Float, nan}
-use Rattle.market.specs.Numbers.{_draws_, drawn}
+use Rattle.market.specs.Faults.{_draws_, drawn}
 use Rattle.market.specs.Orders.{marketOrder, pricedOrder}
 use Rattle.market.specs.declared.order.Order.{Order}
 use Rattle.market.specs.declared.order.OrderType.the-variants.{MarketSell, MarketBuy, LimitSell, LimitBuy, StopSell, StopBuy}
@@ -21,8 +21,8 @@ abbrev with : Float → List (ℕ × Float) → Money
 with cash held = having [] (quote 1 (num 9) (num 10) ∷ []) cash held []
 
 -- the number that an order draws, or 0, the exchange having room
-abbrev number : Money → Order → ℕ
-number m o = drawn (sendTests m [] o)
+abbrev fault : Money → Order → ℕ
+fault m o = drawn (sendTests m [] o)
 
 -- the same where 10 and 11 both hold
 abbrev crowded : Money → Order → ℕ
@@ -37,28 +37,28 @@ abbrev roomFor : ℕ → ℕ → ℕ
 roomFor rows orders =
     insertEvent
     (record { room = rows; money = with (num 0) []; orders = record { waiting = replicate orders (plain (sell 1 1)); booked = []; trades = [] } })
-    (sell 1 1) .number
+    (sell 1 1) .fault
 
 abbrev pub sending : List Example
 sending =
     -- a buy passes if cash > shares × ask: 10 × 10 = 100 is above 95, as 10 × 9 would not be; it is not below 100; it is below 100.5
-    example 401 (map (λ c. number (with c []) (buy 1 10)) (num 95 ∷ num 100 ∷ halves 201 ∷ [])) (7 ∷ 7 ∷ 0 ∷ []) ∷
+    example 401 (map (λ c. fault (with c []) (buy 1 10)) (num 95 ∷ num 100 ∷ halves 201 ∷ [])) (7 ∷ 7 ∷ 0 ∷ []) ∷
     -- a buy of zero shares: 0 > 0 × 10 fails, 7; with cash 1 it is 9
-    example 402 (map (λ c. number (with c []) (buy 1 0)) (num 0 ∷ num 1 ∷ [])) (7 ∷ 9 ∷ []) ∷
+    example 402 (map (λ c. fault (with c []) (buy 1 0)) (num 0 ∷ num 1 ∷ [])) (7 ∷ 9 ∷ []) ∷
     -- a sale of a held symbol passes if holding >= shares: 5 of 5, not 5.5; cash is not asked for
-    example 403 (map (λ n. number (with (num 0) ((1, num 5) ∷ [])) (marketOrder MarketSell 1 n)) (num 5 ∷ halves 11 ∷ [])) (0 ∷ 8 ∷ []) ∷
+    example 403 (map (λ n. fault (with (num 0) ((1, num 5) ∷ [])) (marketOrder MarketSell 1 n)) (num 5 ∷ halves 11 ∷ [])) (0 ∷ 8 ∷ []) ∷
     -- a sale of an unheld symbol passes; of zero shares it is 9, and -0 is zero
-    example 404 (map (λ n. number (with (num 0) []) (marketOrder MarketSell 1 n)) (num 3 ∷ num 0 ∷ negative 0 1 ∷ [])) (0 ∷ 9 ∷ 9 ∷ []) ∷
+    example 404 (map (λ n. fault (with (num 0) []) (marketOrder MarketSell 1 n)) (num 3 ∷ num 0 ∷ negative 0 1 ∷ [])) (0 ∷ 9 ∷ 9 ∷ []) ∷
     -- -2 are held: 1 is more than that, and so is 0, for which 8 comes before 9; a buy asks for cash alone
-    example 405 (map (number (with (num 100) ((1, negative 2 1) ∷ []))) (sell 1 1 ∷ sell 1 0 ∷ buy 1 3 ∷ [])) (8 ∷ 8 ∷ 0 ∷ []) ∷
+    example 405 (map (fault (with (num 100) ((1, negative 2 1) ∷ []))) (sell 1 1 ∷ sell 1 0 ∷ buy 1 3 ∷ [])) (8 ∷ 8 ∷ 0 ∷ []) ∷
     -- 5: symbol 2 has no latest quote; it comes before 6. 6: the limit and stop kinds; it comes before 7, 8 and 9
-    example 406 (map (number (with (num 0) [])) (buy 2 1 ∷ sell 2 0 ∷ pricedOrder LimitBuy 2 (num 1) (num 9) ∷ [])) (5 ∷ 5 ∷ 5 ∷ []) ∷
+    example 406 (map (fault (with (num 0) [])) (buy 2 1 ∷ sell 2 0 ∷ pricedOrder LimitBuy 2 (num 1) (num 9) ∷ [])) (5 ∷ 5 ∷ 5 ∷ []) ∷
     example 407
-    (map (λ k. number (with (num 0) ((1, num 5) ∷ [])) (pricedOrder k 1 (num 9) (num 9))) (LimitBuy ∷ LimitSell ∷ StopBuy ∷ StopSell ∷ MarketBuy ∷ MarketSell ∷ []))
+    (map (λ k. fault (with (num 0) ((1, num 5) ∷ [])) (pricedOrder k 1 (num 9) (num 9))) (LimitBuy ∷ LimitSell ∷ StopBuy ∷ StopSell ∷ MarketBuy ∷ MarketSell ∷ []))
     (6 ∷ 6 ∷ 6 ∷ 6 ∷ 7 ∷ 8 ∷ []) ∷
     -- 4: a Failed broker, for what would be taken, for an unquoted symbol and for a limit order; 1 and 2 come before it
     example 408
-    (map (number (failedIf true (with (num 100) [])))
+    (map (fault (failedIf true (with (num 100) [])))
     (buy 1 1 ∷ sell 1 0 ∷ buy 2 1 ∷ pricedOrder LimitBuy 1 (num 1) (num 9) ∷ buy 256 1 ∷ marketOrder MarketSell 1 nan ∷ []))
     (4 ∷ 4 ∷ 4 ∷ 4 ∷ 1 ∷ 2 ∷ []) ∷
     -- 10 and 11 come last: after 7, 8 and 9; 10 before 11

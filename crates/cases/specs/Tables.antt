@@ -4,7 +4,7 @@ use mathlib.Core.Bool.{true, false}
 use mathlib.Core.List.{List, [], _∷_, map}
 use mathlib.Core.Option.{none, some}
 use lib.Ieee.{nan, inf}
-use Rattle.market.specs.Numbers.{drawn}
+use Rattle.market.specs.Faults.{drawn}
 use Rattle.market.specs.Orders.{marketOrder, pricedOrder, orderTests}
 use Rattle.market.specs.Quotes.{tableTests, rowFor, tableOf, rowAt}
 use Rattle.market.specs.Weights.{weightRows}

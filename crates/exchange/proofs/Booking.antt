@@ -13,6 +13,8 @@ use Rattle.lists.specs.Lists.{over}
 use Rattle.lists.proofs.Over.{take-over, over-take, over-over}
 use Rattle.market.specs.Orders.{isSell}
 use Rattle.market.specs.declared.order.Order.{Order}
+use Rattle.orders.proofs.Sides.{sides}
+use Rattle.exchange.specs.State.{bookedAs}
 use Rattle.exchange.specs.Tick.{ordersIn, ofSide, sellsFirst, next, numberFrom, counterAfter, bookSideOf, bookWaitingOf, waitingPlace}
 use Rattle.exchange.specs.declared.state.Booked.{Booked}
 use Rattle.exchange.specs.declared.tick.Booking.{Booking}
@@ -26,22 +28,13 @@ length-numbers n (o ∷ l) = ap suc (length-numbers (next n) l)
 
 pub numbers-append : (n : ℕ) (l m : List Order) → numberFrom n (l ++ m) ≡ numberFrom n l ++ numberFrom (counterAfter n l) m
 numbers-append n [] m = refl
-numbers-append n (o ∷ l) m = ap (λ (z : List Booked). record { number = n; order = o } ∷ z) (numbers-append (next n) l m)
+numbers-append n (o ∷ l) m = ap (λ (z : List Booked). bookedAs n o ∷ z) (numbers-append (next n) l m)
 
 pub counter-append : (n : ℕ) (l m : List Order) → counterAfter n (l ++ m) ≡ counterAfter (counterAfter n l) m
 counter-append n [] m = refl
 counter-append n (o ∷ l) m = counter-append (next n) l m
 
--- ---- the two sides
-
-sides-by : (b : Bool) (n : ℕ) (o : Order) (x y : List Order) → length x + length y ≡ n → length (cond (Bool·beq b true) (o ∷ x) x) + length (cond (Bool·beq b false) (o ∷ y) y) ≡ suc n
-sides-by true n o x y e = omega arith
-sides-by false n o x y e = omega arith
-
--- each order is of one side
-pub sides : (l : List Order) → length (ofSide true l) + length (ofSide false l) ≡ length l
-sides [] = refl
-sides (o ∷ l) = sides-by (isSell (o .kind)) (length l) o (ofSide true l) (ofSide false l) (sides l)
+-- ---- how many there are
 
 -- no more orders stand between two places than there are places
 pub length-orders : (book : List Booked) (from until : ℕ) → length (ordersIn book from until) ≤ until - from
@@ -49,11 +42,11 @@ length-orders book from until = omega (arith, length-map (take (until - from) (d
 
 -- ---- one booking after another
 
-pub same-booking : (a b : Booking) → a .book ≡ b .book → a .at ≡ b .at → a .number ≡ b .number → a ≡ b
+pub same-booking : (a b : Booking) → a .book ≡ b .book → a .at ≡ b .at → a .ids ≡ b .ids → a ≡ b
 same-booking a b p q r =
-    ap (λ (l : List Booked). record { book = l; at = a .at; number = a .number }) p
-    ∙ ap (λ (n : ℕ). record { book = b .book; at = n; number = a .number }) q
-    ∙ ap (λ (n : ℕ). record { book = b .book; at = b .at; number = n }) r
+    ap (λ (l : List Booked). record { book = l; at = a .at; ids = a .ids }) p
+    ∙ ap (λ (n : ℕ). record { book = b .book; at = n; ids = a .ids }) q
+    ∙ ap (λ (n : ℕ). record { book = b .book; at = b .at; ids = n }) r
 
 pub book-none : (b : Booking) → bookSideOf b [] ≡ b
 unfolding bookSideOf
@@ -61,14 +54,14 @@ book-none b = same-booking (bookSideOf b []) b (rw append-nil (over-take (b .at)
 
 -- the next order booked
 abbrev pub bookedOne : Booking → Order → Booking
-bookedOne b o = record { book = set (b .book) (b .at) (record { number = b .number; order = o }); at = b .at + 1; number = next (b .number) }
+bookedOne b o = record { book = set (b .book) (b .at) (bookedAs (b .ids) o); at = b .at + 1; ids = next (b .ids) }
 
 pub book-one : (b : Booking) (o : Order) (l : List Order) → b .at < length (b .book) → bookSideOf b (o ∷ l) ≡ bookSideOf (bookedOne b o) l
 unfolding bookSideOf
 book-one b o l h =
-    let x : Booked = record { number = b .number; order = o } in
+    let x : Booked = bookedAs (b .ids) o in
     let k = take (b .at) (b .book) in
-    let m = numberFrom (next (b .number)) l in
+    let m = numberFrom (next (b .ids)) l in
     let s = set (b .book) (b .at) x in
     let front : take (b .at + 1) s ++ m ≡ k ++ (x ∷ m) = rw (add-one, take-suc-set (b .book) (b .at) x) (append-assoc k (x ∷ []) m) in
     let low : b .at < length (k ++ (x ∷ m)) = omega (arith, length-append k (x ∷ m), length-take (b .at) (b .book)) in
@@ -79,8 +72,8 @@ book-one b o l h =
 
 -- orders booked behind those that a list has put in the first places
 pub booked-behind : (k book : List Booked) (n : ℕ) (l : List Order) →
-    bookSideOf (record { book = over k book; at = length k; number = n }) l
-    ≡ record { book = over (k ++ numberFrom n l) book; at = length (k ++ numberFrom n l); number = counterAfter n l }
+    bookSideOf (record { book = over k book; at = length k; ids = n }) l
+    ≡ record { book = over (k ++ numberFrom n l) book; at = length (k ++ numberFrom n l); ids = counterAfter n l }
 unfolding bookSideOf
 booked-behind k book n l =
     let p : over (take (length k) (over k book) ++ numberFrom n l) (over k book) ≡ over (k ++ numberFrom n l) book
@@ -235,7 +228,7 @@ module _ (old : List Booked) (from n : ℕ) (whole b : Booking) (k : ℕ) (v : I
 
   pub books-one : (b′ : Booking) → Bool·beq (isSell (here .kind)) (ltb k n) ≡ true → b′ ≡ bookedOne b here → Inv old from n whole b′ (k + 1)
   books-one b′ t e =
-      let x : Booked = record { number = b .number; order = here } in
+      let x : Booked = bookedAs (b .ids) here in
       let low : b .at < length (b .book) = omega (arith, place-left t, v .wide) in
       let a : b′ .at ≡ b .at + 1 = ap (λ (y : Booking). y .at) e in
       record {

@@ -5,11 +5,9 @@ use mathlib.Core.Bool.{Bool, true, false, cond}
 use mathlib.Core.List.{List, [], _∷_, _++_, append-nil}
 use mathlib.Core.Option.{Option, none, some}
 use native.Mathlib.Omega.{arith}
-use native.Mathlib.Nat.{mod-eq-of-lt}
 use lib.Dec.{ltb}
 use lib.Ieee.{nan}
 use lib.ListN.{length, take, set, getD, length-append, length-take}
-use borrow.Author.Tests.{ltb-true}
 use Rattle.lists.specs.Lists.{over, keep, given, holds}
 use Rattle.lists.proofs.Over.{over-read, over-more}
 use Rattle.lists.proofs.Keep.{keep-more, keep-less, gather-more}
@@ -21,27 +19,18 @@ use Rattle.market.specs.declared.quote.Quote.{Quote}
 use Rattle.market.specs.declared.table.Table.{Table}
 use Rattle.market.specs.declared.trade.Trade.{Trade}
 use Rattle.market.specs.declared.trade.Fill.{Fill}
+use Rattle.market.proofs.Tables.{row-listed}
 use Rattle.exchange.specs.Tick.{noTrades, tradeAt, stays, tradesOf, executeOf}
 use Rattle.exchange.specs.declared.state.Booked.{Booked}
 use Rattle.exchange.specs.declared.tick.Executed.{Executed}
 
 -- what a read past the end of an array of booked orders gives; no code reads there
 abbrev pub noBooked : Booked
-noBooked = record { number = 0; order = record { kind = MarketSell; priced = false; symbol = 0; shares = nan; price = nan } }
+noBooked = record { id = 0; order = record { kind = MarketSell; priced = false; symbol = 0; shares = nan; price = nan } }
 
 -- ---- the row for a symbol
 
-listed-by : (t : Table) (s : ℕ) (b : Bool) → ltb s 256 ≡ b →
-    rowIf (cond b (getD (t .present) (s % 256) false) false) (getD (t .rows) (s % 256) noQuote)
-    ≡ cond b (cond (getD (t .present) s false) (some (getD (t .rows) s noQuote)) none) none
-listed-by t s true e = rw (mod-eq-of-lt (ltb-true s 256 e))
-listed-by t s false e = refl
-
--- the row at the symbol's place modulo 256, where it is listed, is the table's row for the symbol
-pub row-listed : (t : Table) (s : ℕ) → rowIf (cond (ltb s 256) (getD (t .present) (s % 256) false) false) (getD (t .rows) (s % 256) noQuote) ≡ rowAt t s
-row-listed t s = listed-by t s (ltb s 256) refl
-
--- what an order does on the row so read is what it does on the table
+-- what an order does on the row that the code reads is what it does on the table
 pub fill-at : (t : Table) (o : Order) (p : Bool) (f : Fill) → p ≡ cond (ltb (o .symbol) 256) (getD (t .present) (o .symbol % 256) false) false →
     tradeIn f ≡ tradeOn (rowIf p (getD (t .rows) (o .symbol % 256) noQuote)) o → tradeAt (rowAt t) o ≡ tradeIn f
 fill-at t o p f e h =

@@ -2,14 +2,13 @@
 use Prim.Native.Nat.{ℕ, zero, suc, _+_, _≤_}
 use native.Mathlib.Omega.{arith}
 use mathlib.Core.Bool.{Bool, true, false, not, _||_}
-use mathlib.Core.Path.{_≡_, refl, _∙_, sym, ap, ap₂, subst, fun-ext}
-use mathlib.Core.List.{List, _∷_}
+use mathlib.Core.Path.{_≡_, refl, _∙_, sym, ap, subst, fun-ext}
+use mathlib.Core.List.{List, [], _∷_}
 use lib.Dec.{eqb}
 use lib.ListN.{length}
 use lib.Seq.{paste, paste-zero}
-use borrow.Author.Tests.{eqb-true}
 use Rattle.lists.proofs.Over.{paste-over}
-use Rattle.market.specs.Numbers.{_draws_, drawn, unlessDrawn}
+use Rattle.market.specs.Faults.{_draws_, drawn, unlessDrawn}
 use Rattle.market.specs.Quotes.{tableTests, tableOf, rowAt, rowFor}
 use Rattle.market.specs.declared.quote.Quote.{Quote}
 use Rattle.market.specs.declared.trade.Trade.{Trade}
@@ -19,7 +18,7 @@ use Rattle.exchange.specs.Tick.{noTrades, tradesOf, tickDone, refusedWit
 use Rattle.exchange.specs.Lent.{lentTests, lentTick, lentLog}
 use Rattle.exchange.specs.declared.state.UistV1.{UistV1}
 use Rattle.exchange.specs.declared.tick.Ticked.{Ticked}
-use Rattle.exchange.proofs.Counting.{Sound, sound-facts}
+use Rattle.exchange.proofs.Counting.{Sound, sound-facts, log-facts}
 use Rattle.exchange.proofs.Executing.{few-executed}
 
 -- what a tick's answer x says of a lent log
@@ -59,17 +58,24 @@ module _ (e : UistV1) (rows : List Quote) (log : List Trade) where
       subst (λ r. TickFor e rows log (tickDone e r)) (sym (fun-ext (table-row rows f))) (done-for (d ∙ f) same sound)
   by-rows same sound d (suc n) f = refused-for n (d ∙ f)
 
-  by-counts : length log ≡ e .counts .room → eqb (length log) (e .counts .room) ≡ true → (b : Bool) → brokenOf (e .counts) ≡ b → TickFor e rows log (tickOf e (tableOf rows))
+  by-counts : length log ≡ e .counts .room → brokenOf (e .counts) ≡ false → drawn (lentTests e rows log) ≡ drawn (tableTests 0 rows) → TickFor e rows log (tickOf e (tableOf rows))
   unfolding tickOf drawn
-  by-counts same p true q =
-      rw q (refused-for 15 (ap₂ (λ x y. drawn (((not x || y) draws 16) ∷ tableTests 0 rows)) p q))
-  by-counts same p false q =
-      rw (q, table-fault rows) (by-rows same q (ap₂ (λ x y. drawn (((not x || y) draws 16) ∷ tableTests 0 rows)) p q) (drawn (tableTests 0 rows)) refl)
+  by-counts same q d = rw (q, table-fault rows) (by-rows same q d (drawn (tableTests 0 rows)) refl)
 
-  by-length : (b : Bool) → eqb (length log) (e .counts .room) ≡ b → TickFor e rows log (tickForOf e (tableOf rows) (length log))
-  unfolding tickForOf drawn
-  by-length true p = rw p (by-counts (eqb-true (length log) (e .counts .room) p) p (brokenOf (e .counts)) refl)
-  by-length false p = rw p (refused-for 15 (ap (λ x. drawn (((not x || brokenOf (e .counts)) draws 16) ∷ tableTests 0 rows)) p))
+  -- by whether the lender's 16 is drawn
+  abbrev answered : Bool → Ticked
+  answered b = let m = drawn ((b draws 16) ∷ []) in unlessDrawn m (tickOf e (tableOf rows)) (refusedWith e m)
+
+  abbrev test : Bool
+  test = not (eqb (length log) (e .counts .room)) || brokenOf (e .counts)
+
+  by-test : (b : Bool) → test ≡ b → TickFor e rows log (answered b)
+  unfolding drawn
+  by-test true p = refused-for 15 (ap (λ (x : Bool). drawn ((x draws 16) ∷ tableTests 0 rows)) p)
+  by-test false p =
+      let f = log-facts (e .counts) (length log) (ap (λ (x : Bool). drawn ((x draws 16) ∷ [])) p) in
+      by-counts (f .0) (f .1) (ap (λ (x : Bool). drawn ((x draws 16) ∷ tableTests 0 rows)) p)
 
   pub tick-for : TickFor e rows log (tickForOf e (tableOf rows) (length log))
-  tick-for = by-length (eqb (length log) (e .counts .room)) refl
+  unfolding tickForOf
+  tick-for = by-test test refl

@@ -98,7 +98,7 @@ abbrev pub counted : UistV1 → UistV1 → UistV1
 counted e s =
     record {
       book = s .book;
-      counts = record { resting = e .counts .resting - 1; waits = s .counts .waits; given = s .counts .given; taken = s .counts .taken; logged = s .counts .logged; room = s .counts .room };
+      counts = record { resting = e .counts .resting - 1; waits = s .counts .waits; ids = s .counts .ids; taken = s .counts .taken; logged = s .counts .logged; room = s .counts .room };
     }
 
 -- at the loop's end the order is out of the book

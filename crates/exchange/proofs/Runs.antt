@@ -11,22 +11,22 @@ use lib.ListN.{length, take, length-replicate}
 use borrow.Author.Tests.{eq-eqb, eqb-false}
 use Rattle.lists.specs.Lists.{over, stored}
 use Rattle.lists.proofs.Over.{length-over, take-over, stored-over}
-use Rattle.market.specs.Numbers.{_draws_, drawn, unlessDrawn}
+use Rattle.market.specs.Faults.{_draws_, drawn, unlessDrawn}
 use Rattle.market.specs.Orders.{orderTests}
 use Rattle.market.specs.Quotes.{tableTests, rowFor}
 use Rattle.market.specs.declared.order.Order.{Order}
 use Rattle.market.specs.declared.quote.Quote.{Quote}
 use Rattle.market.specs.declared.trade.Trade.{Trade}
-use Rattle.market.proofs.Numbers.{order-numbered, append-none, none-drawn}
+use Rattle.market.proofs.Faults.{order-numbered, append-none, none-drawn}
 use Rattle.orders.specs.Orders as Ledger
-use Rattle.orders.specs.Orders.{Taken, plain, Orders, noOrders, restingIn, takeOn, erase, fillsOf}
+use Rattle.orders.specs.Orders.{Taken, plain, Orders, noOrders, restingIn, bookWidth, roomTests, takeOn, erase, fillsOf}
 use Rattle.orders.proofs.Shape.{Shape, Kept, kept, quiet, acting, erasing}
 use Rattle.orders.proofs.Lives as Lives
-use Rattle.exchange.specs.State.{fresh, blankBooked, brokenOf, restingOf}
+use Rattle.exchange.specs.State.{fresh, blankRow, brokenOf, logTest, restingOf}
 use Rattle.exchange.specs.Insert.{insertTests, joined, insertOf}
 use Rattle.exchange.specs.Delete.{deleteOf}
 use Rattle.exchange.specs.Tick.{tradesOf, ticked}
-use Rattle.exchange.specs.Lent.{logTest, lentTests, lentTick, lentLog}
+use Rattle.exchange.specs.Lent.{lentTests, lentTick, lentLog}
 use Rattle.exchange.specs.Runs.{Call, insert, delete, tick, Held, opened, step, answer, run, answers, takeTests, ledgerStep, ledgerAnswer, takesIn, ledgerRun, ledgerAnswers, tradable, deletes, exchangeCalls, ledgerAfter, takesAfter, ExchangeRun}
 use Rattle.exchange.proofs.Counting.{sound-not-broken}
 use Rattle.exchange.proofs.Books.{Books, books-take, books-delete, books-trades, books-tick}
@@ -58,10 +58,10 @@ module _ (l₀ : List Trade) (s : Held) (b : Orders) (m : Meets l₀ s b) where
   insert-number o =
       let r = m .books in
       let c = s .exchange .counts in
-      ap (λ t. drawn ((t draws 16) ∷ (orderTests o ++ (eqb (c .taken) (c .room) draws 10) ∷ (eqb (c .resting + c .waits) 1024 draws 11) ∷ []))) unbroken
+      ap (λ t. drawn ((t draws 16) ∷ (orderTests o ++ roomTests (c .room) bookWidth (c .taken) (c .resting + c .waits)))) unbroken
       ∙ ap₂ (λ x y. drawn (orderTests o ++ (x draws 10) ∷ (y draws 11) ∷ []))
       (ap₂ eqb (r .taken-is) (r .room-is))
-      (ap₂ (λ x y. eqb (x + y) 1024) (r .rest-count) (r .wait-count))
+      (ap₂ (λ x y. eqb (x + y) bookWidth) (r .rest-count) (r .wait-count))
 
   taken-by : (o : Order) (n : ℕ) → drawn (takeTests (length l₀) b o) ≡ n →
       Meets l₀ (record { exchange = unlessDrawn n (joined (s .exchange) o) (s .exchange); log = s .log }) (unlessDrawn n (takeOn (plain o) b) b)
@@ -69,9 +69,9 @@ module _ (l₀ : List Trade) (s : Held) (b : Orders) (m : Meets l₀ s b) where
   taken-by o zero e =
       let room-none = append-none (orderTests o) _ (order-numbered o) e .1 in
       let ten = none-drawn (eqb (length (b .booked) + length (b .waiting)) (length l₀)) 9 _ room-none in
-      let eleven = none-drawn (eqb (restingIn (b .booked) + length (b .waiting)) 1024) 10 [] (ten .1) in
+      let eleven = none-drawn (eqb (restingIn (b .booked) + length (b .waiting)) bookWidth) 10 [] (ten .1) in
       let p = eqb-false (length (b .booked) + length (b .waiting)) (length l₀) (ten .0) in
-      let q = eqb-false (restingIn (b .booked) + length (b .waiting)) 1024 (eleven .0) in
+      let q = eqb-false (restingIn (b .booked) + length (b .waiting)) bookWidth (eleven .0) in
       record {
         books = books-take (s .exchange) (length l₀) b (m .books) o (omega (arith, m .books .fit .room-left, p)) (omega (arith, m .books .fit .places, q));
         log = m .log;
@@ -86,16 +86,16 @@ module _ (l₀ : List Trade) (s : Held) (b : Orders) (m : Meets l₀ s b) where
 
   insert-answer : (o : Order) → answer s (insert o) ≡ ledgerAnswer (length l₀) b (insert o)
   unfolding insertOf
-  insert-answer o = ap (λ n. record { traded = 0; number = n }) (insert-number o)
+  insert-answer o = ap (λ n. record { traded = 0; fault = n }) (insert-number o)
 
   -- ---- deletion
 
   delete-meets : (n : ℕ) → Meets l₀ (step s (delete n)) (ledgerStep (length l₀) b (delete n))
-  unfolding deleteOf
+  unfolding deleteOf drawn
   delete-meets n = rw unbroken (record { books = books-delete (s .exchange) (length l₀) b (m .books) n; log = m .log })
 
   delete-answer : (n : ℕ) → answer s (delete n) ≡ ledgerAnswer (length l₀) b (delete n)
-  unfolding deleteOf
+  unfolding deleteOf drawn
   delete-answer n = rw unbroken
 
   -- ---- tick
@@ -103,7 +103,7 @@ module _ (l₀ : List Trade) (s : Held) (b : Orders) (m : Meets l₀ s b) where
   log-length : length (s .log) ≡ length l₀
   log-length = ap length (m .log) ∙ length-over (b .trades) l₀ (omega (arith, m .books .fit .traded, m .books .fit .room-left))
 
-  pub no-sixteen : drawn (logTest (s .exchange) (s .log) ∷ []) ≡ 0
+  pub no-sixteen : drawn (logTest (s .exchange .counts) (length (s .log)) ∷ []) ≡ 0
   unfolding drawn
   no-sixteen = ap₂ (λ x y. drawn (((not x || y) draws 16) ∷ [])) (eq-eqb _ _ (log-length ∙ sym (m .books .room-is))) unbroken
 
@@ -135,7 +135,7 @@ module _ (l₀ : List Trade) (s : Held) (b : Orders) (m : Meets l₀ s b) where
   tick-answer : (rows : List Quote) → answer s (tick rows) ≡ ledgerAnswer (length l₀) b (tick rows)
   unfolding lentTick
   tick-answer rows =
-      ap₂ (λ n t. record { traded = unlessDrawn n (length t) 0; number = n }) (tick-number rows) (books-trades (s .exchange) (length l₀) b (m .books) rows)
+      ap₂ (λ n t. record { traded = unlessDrawn n (length t) 0; fault = n }) (tick-number rows) (books-trades (s .exchange) (length l₀) b (m .books) rows)
 
   -- ---- any call
 
@@ -172,7 +172,7 @@ opened-meets l₀ =
         taken-is = refl;
         logged-is = refl;
         room-is = refl;
-        size = length-replicate 1024 blankBooked;
+        size = length-replicate 1024 blankRow;
         fit = record { traded = omega arith; room-left = omega arith; places = omega arith };
       };
       log = refl;

@@ -1,14 +1,12 @@
 -- The exchange over lent lists: the log `&mut [Trade]`, and a tick's table `&[Quote]`. Definitions only.
-use mathlib.Core.Bool.{not, _||_}
 use mathlib.Core.List.{List, _∷_}
-use lib.Dec.{eqb}
 use lib.ListN.{length}
 use Rattle.lists.specs.Lists.{stored}
-use Rattle.market.specs.Numbers.{Test, _draws_, drawn, unlessDrawn}
+use Rattle.market.specs.Faults.{Test, drawn, unlessDrawn}
 use Rattle.market.specs.Quotes.{tableTests, rowFor}
 use Rattle.market.specs.declared.quote.Quote.{Quote}
 use Rattle.market.specs.declared.trade.Trade.{Trade}
-use Rattle.exchange.specs.State.{fresh, brokenOf, restingOf}
+use Rattle.exchange.specs.State.{fresh, logTest, restingOf}
 use Rattle.exchange.specs.Tick.{tradesOf, ticked}
 use Rattle.exchange.specs.declared.state.UistV1.{UistV1}
 use Rattle.exchange.specs.declared.tick.TickAnswer.{TickAnswer}
@@ -17,13 +15,9 @@ use Rattle.exchange.specs.declared.tick.TickAnswer.{TickAnswer}
 abbrev pub openOf : List Trade → UistV1
 openOf log = fresh (length log)
 
--- lender: 16 where the log's length is not that of the start, or where the counts do not hold together
-abbrev pub logTest : UistV1 → List Trade → Test
-logTest e log = (not (eqb (length log) (e .counts .room)) || brokenOf (e .counts)) draws 16
-
 -- 16, then the rows: 1, 2, 3
 abbrev pub lentTests : UistV1 → List Quote → List Trade → List Test
-lentTests e rows log = logTest e log ∷ tableTests 0 rows
+lentTests e rows log = logTest (e .counts) (length log) ∷ tableTests 0 rows
 
 -- a tick answers how many orders traded; a refusal changes nothing
 unfoldable pub lentTick : UistV1 → List Quote → List Trade → TickAnswer
@@ -32,7 +26,7 @@ lentTick e rows log =
     record {
       exchange = unlessDrawn n (ticked e (rowFor rows)) e;
       traded = unlessDrawn n (length (tradesOf (rowFor rows) (restingOf e))) 0;
-      number = n;
+      fault = n;
     }
 
 -- the new rows stand after the old ones; what lies past them is as it was, and a refusal leaves the log alone

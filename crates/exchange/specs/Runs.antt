@@ -1,5 +1,5 @@
 -- Lists of an exchange's calls: the program's own definitions beside the plain ledger's orders, fed the same calls. Definitions only.
-use Prim.Native.Nat.{ℕ, suc, _+_}
+use Prim.Native.Nat.{ℕ, suc}
 use mathlib.Core.Bool.{Bool, false}
 use mathlib.Core.Path.{_≡_}
 use mathlib.Core.List.{List, [], _∷_, _++_}
@@ -7,19 +7,19 @@ use mathlib.Core.Option.{Option, none, some}
 use lib.Dec.{eqb}
 use lib.ListN.{length, take}
 use Rattle.lists.specs.Lists.{over}
-use Rattle.market.specs.Numbers.{Test, _draws_, drawn, unlessDrawn}
+use Rattle.market.specs.Faults.{Test, drawn, unlessDrawn}
 use Rattle.market.specs.Orders.{orderTests}
 use Rattle.market.specs.Quotes.{tableTests}
 use Rattle.market.specs.declared.order.Order.{Order}
 use Rattle.market.specs.declared.quote.Quote.{Quote}
 use Rattle.market.specs.declared.trade.Trade.{Trade}
 use Rattle.orders.specs.Orders as Ledger
-use Rattle.orders.specs.Orders.{Taken, plain, ordersOf, Fate, resting, ended, Entry, Orders, noOrders, restingIn, takeOn, erase, fillsOf}
+use Rattle.orders.specs.Orders.{Taken, plain, ordersOf, Fate, resting, ended, Entry, Orders, noOrders, bookWidth, roomFor, takeOn, erase, fillsOf}
 use Rattle.orders.specs.Claim.{Calls, Lived}
-use Rattle.exchange.specs.State.{restingOf, waitingOf}
+use Rattle.exchange.specs.State.{bookedAs, logTest, restingOf, waitingOf}
 use Rattle.exchange.specs.Insert.{insertOf}
 use Rattle.exchange.specs.Delete.{deleteOf}
-use Rattle.exchange.specs.Lent.{openOf, logTest, lentTick, lentLog}
+use Rattle.exchange.specs.Lent.{openOf, lentTick, lentLog}
 use Rattle.exchange.specs.declared.state.Booked.{Booked}
 use Rattle.exchange.specs.declared.state.UistV1.{UistV1}
 
@@ -32,7 +32,7 @@ pub data Call : Type 0 where
 -- what a call answers: how many orders traded, and the number drawn, or 0
 pub record Answer : Type 0 where
   pub traded : ℕ
-  pub number : ℕ
+  pub fault : ℕ
 
 -- ---- the program: each call finds the exchange and the log as the last call left them
 
@@ -49,11 +49,11 @@ step s (delete n) = record { exchange = deleteOf (s .exchange) n .exchange; log 
 step s (tick rows) = record { exchange = lentTick (s .exchange) rows (s .log) .exchange; log = lentLog (s .exchange) rows (s .log) }
 
 abbrev pub answer : Held → Call → Answer
-answer s (insert o) = record { traded = 0; number = insertOf (s .exchange) o .number }
-answer s (delete n) = record { traded = 0; number = deleteOf (s .exchange) n .number }
+answer s (insert o) = record { traded = 0; fault = insertOf (s .exchange) o .fault }
+answer s (delete n) = record { traded = 0; fault = deleteOf (s .exchange) n .fault }
 answer s (tick rows) =
     let r = lentTick (s .exchange) rows (s .log) in
-    record { traded = r .traded; number = r .number }
+    record { traded = r .traded; fault = r .fault }
 
 abbrev pub run : Held → List Call → Held
 run s [] = s
@@ -65,12 +65,9 @@ answers s (c ∷ cs) = answer s c ∷ answers (step s c) cs
 
 -- ---- the ledger, for a log of `room` rows
 
--- 1, 2, 10 orders taken = log length, 11 resting + waiting = 1,024, by the ledger's fields
+-- 1, 2, 10, 11, by the ledger's fields
 abbrev pub takeTests : ℕ → Orders → Order → List Test
-takeTests room b o =
-    orderTests o ++
-    (eqb (length (b .booked) + length (b .waiting)) room draws 10) ∷
-    (eqb (restingIn (b .booked) + length (b .waiting)) 1024 draws 11) ∷ []
+takeTests room b o = orderTests o ++ roomFor room bookWidth b
 
 abbrev pub ledgerStep : ℕ → Orders → Call → Orders
 ledgerStep room b (insert o) = unlessDrawn (drawn (takeTests room b o)) (takeOn (plain o) b) b
@@ -84,10 +81,10 @@ takesIn room b (delete n) = []
 takesIn room b (tick rows) = []
 
 abbrev pub ledgerAnswer : ℕ → Orders → Call → Answer
-ledgerAnswer room b (insert o) = record { traded = 0; number = drawn (takeTests room b o) }
-ledgerAnswer room b (delete n) = record { traded = 0; number = 0 }
+ledgerAnswer room b (insert o) = record { traded = 0; fault = drawn (takeTests room b o) }
+ledgerAnswer room b (delete n) = record { traded = 0; fault = 0 }
 ledgerAnswer room b (tick rows) =
-    record { traded = unlessDrawn (drawn (tableTests 0 rows)) (length (fillsOf rows (b .booked))) 0; number = drawn (tableTests 0 rows) }
+    record { traded = unlessDrawn (drawn (tableTests 0 rows)) (length (fillsOf rows (b .booked))) 0; fault = drawn (tableTests 0 rows) }
 
 abbrev pub ledgerRun : ℕ → Orders → List Call → Orders
 ledgerRun room b [] = b
@@ -115,7 +112,7 @@ exchangeCalls = record { Call = Call; tradable = tradable; deletes = deletes }
 
 -- the ledger's resting orders with their numbers
 abbrev pub restOf : Fate → ℕ → Order → List Booked → List Booked
-restOf resting n o l = record { number = n; order = o } ∷ l
+restOf resting n o l = bookedAs n o ∷ l
 restOf (ended x) n o l = l
 
 abbrev pub restingFrom : ℕ → List Entry → List Booked
@@ -142,4 +139,4 @@ pub record ExchangeRun (l₀ : List Trade) (cs : List Call) : Type 0 where
   pub logged : take (run (opened l₀) cs .exchange .counts .logged) (run (opened l₀) cs .log) ≡ ledgerAfter (length l₀) cs .trades
   pub rest : restingOf (run (opened l₀) cs .exchange) ≡ restingFrom 0 (ledgerAfter (length l₀) cs .booked)
   pub wait : waitingOf (run (opened l₀) cs .exchange) ≡ ordersOf (ledgerAfter (length l₀) cs .waiting)
-  pub sound : drawn (logTest (run (opened l₀) cs .exchange) (run (opened l₀) cs .log) ∷ []) ≡ 0
+  pub sound : drawn (logTest (run (opened l₀) cs .exchange .counts) (length (run (opened l₀) cs .log)) ∷ []) ≡ 0

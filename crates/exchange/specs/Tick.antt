@@ -3,10 +3,10 @@ use Prim.Native.Nat.{ℕ, _+_, _-_, _%_, _^_}
 use mathlib.Core.Bool.{Bool, true, false, cond}
 use mathlib.Core.List.{List, [], _∷_, _++_, map}
 use mathlib.Core.Option.{Option}
-use lib.Dec.{eqb, ltb}
+use lib.Dec.{ltb}
 use lib.ListN.{length, take, drop, replicate}
 use Rattle.lists.specs.Lists.{over, keep, gather, given, holds}
-use Rattle.market.specs.Numbers.{unlessDrawn}
+use Rattle.market.specs.Faults.{unlessDrawn, firstDrawn}
 use Rattle.market.specs.Quotes.{rowAt}
 use Rattle.market.specs.Trades.{blankTrade, tradeOn}
 use Rattle.market.specs.declared.order.Order.{Order}
@@ -15,7 +15,7 @@ use Rattle.market.specs.declared.table.Table.{Table}
 use Rattle.market.specs.declared.trade.Trade.{Trade}
 -- sells first, then buys, each in order of taking: as the plain ledger books them
 pub use Rattle.orders.specs.Orders.{ofSide, sellsFirst}
-use Rattle.exchange.specs.State.{brokenOf, restingOf, waitingOf}
+use Rattle.exchange.specs.State.{bookedAs, brokenFault, logFault, restingOf, waitingOf}
 use Rattle.exchange.specs.declared.state.Booked.{Booked}
 use Rattle.exchange.specs.declared.state.Counts.{Counts}
 use Rattle.exchange.specs.declared.state.UistV1.{UistV1}
@@ -64,7 +64,7 @@ next n = (n + 1) % 2 ^ 64
 -- the orders numbered from n on, and the counter after them
 abbrev pub numberFrom : ℕ → List Order → List Booked
 numberFrom n [] = []
-numberFrom n (o ∷ l) = record { number = n; order = o } ∷ numberFrom (next n) l
+numberFrom n (o ∷ l) = bookedAs n o ∷ numberFrom (next n) l
 
 abbrev pub counterAfter : ℕ → List Order → ℕ
 counterAfter n [] = n
@@ -74,9 +74,9 @@ counterAfter n (o ∷ l) = counterAfter (next n) l
 unfoldable pub bookSideOf : Booking → List Order → Booking
 bookSideOf b l =
     record {
-      book = over (take (b .at) (b .book) ++ numberFrom (b .number) l) (b .book);
+      book = over (take (b .at) (b .book) ++ numberFrom (b .ids) l) (b .book);
       at = b .at + length l;
-      number = counterAfter (b .number) l;
+      ids = counterAfter (b .ids) l;
     }
 
 unfoldable pub bookWaitingOf : List Booked → ℕ → ℕ → Booking → Booking
@@ -90,12 +90,12 @@ waitingPlace from waits turn = cond (ltb turn waits) (from + turn) (from + (turn
 
 -- the book after a tick: what stays, then what waited, numbered from the counter
 abbrev pub tickedBook : UistV1 → (ℕ → Option Quote) → List Booked
-tickedBook e rows = keep (stays rows) (restingOf e) ++ numberFrom (e .counts .given) (sellsFirst (waitingOf e))
+tickedBook e rows = keep (stays rows) (restingOf e) ++ numberFrom (e .counts .ids) (sellsFirst (waitingOf e))
 
 -- the counts after a tick: all that is booked rests, and the trades are logged
 abbrev pub countsAfter : Counts → ℕ → ℕ → ℕ → Counts
-countsAfter c resting given count =
-    record { resting = resting; waits = 0; given = given; taken = c .taken; logged = c .logged + count; room = c .room }
+countsAfter c resting upto count =
+    record { resting = resting; waits = 0; ids = upto; taken = c .taken; logged = c .logged + count; room = c .room }
 
 -- a tick first trades booked orders in book order, then books the waiting ones
 unfoldable pub ticked : UistV1 → (ℕ → Option Quote) → UistV1
@@ -103,12 +103,12 @@ ticked e rows =
     let c = e .counts in
     record {
       book = over (tickedBook e rows) (e .book);
-      counts = countsAfter c (length (tickedBook e rows)) (counterAfter (c .given) (sellsFirst (waitingOf e))) (length (tradesOf rows (restingOf e)));
+      counts = countsAfter c (length (tickedBook e rows)) (counterAfter (c .ids) (sellsFirst (waitingOf e))) (length (tradesOf rows (restingOf e)));
     }
 
 -- a refusal: the state as it was, no trades, and the number
 abbrev pub refusedWith : UistV1 → ℕ → Ticked
-refusedWith e n = record { exchange = e; trades = noTrades; count = 0; first = 0; number = n }
+refusedWith e n = record { exchange = e; trades = noTrades; count = 0; first = 0; fault = n }
 
 abbrev pub tickDone : UistV1 → (ℕ → Option Quote) → Ticked
 tickDone e rows =
@@ -117,22 +117,22 @@ tickDone e rows =
       trades = over (tradesOf rows (restingOf e)) noTrades;
       count = length (tradesOf rows (restingOf e));
       first = e .counts .logged;
-      number = 0;
+      fault = 0;
     }
 
 -- 16, then the number that the table's rows drew
-abbrev pub tickNumber : UistV1 → ℕ → ℕ
-tickNumber e fault = cond (brokenOf (e .counts)) 16 fault
+abbrev pub tickFault : UistV1 → ℕ → ℕ
+tickFault e fault = firstDrawn (brokenFault (e .counts)) fault
 
 unfoldable pub tickOf : UistV1 → Table → Ticked
 tickOf e t =
-    let n = tickNumber e (t .fault) in
+    let n = tickFault e (t .fault) in
     unlessDrawn n (tickDone e (rowAt t)) (refusedWith e n)
 
 -- 16 also where the log has another length than at the start
 unfoldable pub tickForOf : UistV1 → Table → ℕ → Ticked
 unfolding tickOf
-tickForOf e t n = cond (eqb n (e .counts .room)) (tickOf e t) (refusedWith e 16)
+tickForOf e t n = let m = logFault (e .counts) n in unlessDrawn m (tickOf e t) (refusedWith e m)
 
 abbrev pub answerOf : Ticked → TickAnswer
-answerOf x = record { exchange = x .exchange; traded = x .count; number = x .number }
+answerOf x = record { exchange = x .exchange; traded = x .count; fault = x .fault }

@@ -10,7 +10,7 @@ use crate::state::UistV1;
 // The new state, and 16 or 0.
 pub struct Deleted {
     pub exchange: UistV1,
-    pub number: u32,
+    pub fault: u32,
 }
 
 // Where a number stands among the resting orders.
@@ -26,7 +26,7 @@ fn place_of(book: [Booked; 1024], resting: usize, order_id: u64) -> Place
     let mut i: usize = 0;
     while i < resting {
         let b = book[i];
-        if b.number == order_id {
+        if b.id == order_id {
             return Place::At(i);
         }
         i = i + 1;
@@ -59,10 +59,11 @@ impl UistV1 {
         ensures { λ r. ⌜ r ≡ deleteOf self «order_id» ⌝ }
     {
         let c = self.counts;
-        if c.broken() {
+        let fault = c.fault();
+        if fault != 0 {
             return Deleted {
                 exchange: self,
-                number: 16,
+                fault: fault,
             };
         }
         let book = self.book;
@@ -72,12 +73,12 @@ impl UistV1 {
                 let s = removed(self, i);
                 Deleted {
                     exchange: s,
-                    number: 0,
+                    fault: 0,
                 }
             }
             Place::Nowhere => Deleted {
                 exchange: self,
-                number: 0,
+                fault: 0,
             },
         }
     }

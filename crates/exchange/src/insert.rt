@@ -1,30 +1,38 @@
 // Insertion: an order joins the waiting list.
 ghost use mathlib.Core.Path.{_≡_};
-ghost use Rattle.market.specs.Numbers.{drawn};
-ghost use Rattle.exchange.specs.Insert.{roomTests, insertTests, insertOf};
+ghost use Rattle.market.specs.Faults.{drawn};
+ghost use Rattle.exchange.specs.State.{roomOf};
+ghost use Rattle.exchange.specs.Insert.{insertTests, hasRoom, joinOf, insertOf};
 use crate::state::Booked;
 use crate::state::Counts;
 use crate::state::UistV1;
+use market::fault;
 use market::order::Order;
 
 // The new state, and the number drawn, or 0 where the order was taken.
 pub struct Inserted {
     pub exchange: UistV1,
-    pub number: u32,
+    pub fault: u32,
+}
+
+// The counts with one order more that waits, and its place in the book.
+pub struct Joining {
+    pub counts: Counts,
+    pub at: usize,
 }
 
 impl Counts {
     // 10 and 11, or 0. No sum here can wrap.
     pub fn room_fault(self) -> u32
-        ensures { λ r. ⌜ r ≡ drawn (roomTests self) ⌝ }
+        ensures { λ r. ⌜ r ≡ drawn (roomOf self) ⌝ }
     {
         if self.taken == self.room {
             return 10;
         }
-        if self.resting > 1024 {
+        if self.resting > Counts::WIDTH {
             return 0;
         }
-        if self.waits == 1024 - self.resting {
+        if self.waits == Counts::WIDTH - self.resting {
             11
         } else {
             0
@@ -35,14 +43,39 @@ impl Counts {
     fn insert_fault(self, order: Order) -> u32
         ensures { λ r. ⌜ r ≡ drawn (insertTests self order) ⌝ }
     {
-        if self.broken() {
-            return 16;
+        fault::first(self.fault(), fault::first(order.fault(), self.room_fault()))
+    }
+
+    // Is there room for one more order?
+    fn has_room(self) -> bool
+        ensures { λ r. ⌜ r ≡ hasRoom self ⌝ }
+    {
+        if self.resting >= Counts::WIDTH {
+            return false;
         }
-        let fault = order.fault();
-        if fault != 0 {
-            return fault;
+        if self.waits >= Counts::WIDTH - self.resting {
+            return false;
         }
-        self.room_fault()
+        self.taken < self.room
+    }
+
+    // One order more waits; where there is no room, nothing moves.
+    pub fn join(self) -> Joining
+        ensures { λ r. ⌜ r ≡ joinOf self ⌝ }
+    {
+        if self.has_room() {
+            let mut counts = self;
+            counts.waits = self.waits + 1;
+            counts.taken = self.taken + 1;
+            return Joining {
+                counts: counts,
+                at: self.resting + self.waits,
+            };
+        }
+        Joining {
+            counts: self,
+            at: 0,
+        }
     }
 }
 
@@ -51,20 +84,18 @@ impl UistV1 {
         ensures { λ r. ⌜ r ≡ insertOf self order ⌝ }
     {
         let c = self.counts;
-        let number = c.insert_fault(order);
+        let fault = c.insert_fault(order);
         let mut s = self;
-        if number == 0 {
-            let at = c.resting + c.waits;
-            s.book[at] = Booked {
-                number: 0,
-                order: order,
-            };
-            s.counts.waits = c.waits + 1;
-            s.counts.taken = c.taken + 1;
+        if fault == 0 {
+            let join = c.join();
+            let at = join.at;
+            let counts = join.counts;
+            s.book[at] = Booked::waiting(order);
+            s.counts = counts;
         }
         Inserted {
             exchange: s,
-            number: number,
+            fault: fault,
         }
     }
 }

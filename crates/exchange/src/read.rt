@@ -6,7 +6,7 @@ use crate::state::UistV1;
 // How many trades are in the log, and the number drawn, or 0.
 pub struct TradeCount {
     pub count: u64,
-    pub number: u32,
+    pub fault: u32,
 }
 
 impl UistV1 {
@@ -15,15 +15,16 @@ impl UistV1 {
         ensures { λ r. ⌜ r ≡ tradeCountOf self ⌝ }
     {
         let counts = self.counts;
-        if counts.broken() {
+        let fault = counts.fault();
+        if fault != 0 {
             return TradeCount {
                 count: 0,
-                number: 16,
+                fault: fault,
             };
         }
         TradeCount {
             count: counts.logged,
-            number: 0,
+            fault: 0,
         }
     }
 }

@@ -1,15 +1,13 @@
 // A tick: the resting orders that meet their rule trade, then the waiting ones are booked.
 ghost use mathlib.Core.Path.{_≡_};
 ghost use Prim.Native.Nat.{_+_, _≤_, _<_};
-ghost use mathlib.Core.Bool.{false, cond};
-ghost use lib.Dec.{ltb};
-ghost use Rattle.market.specs.Numbers.{unlessDrawn};
-ghost use Rattle.exchange.specs.State.{brokenOf};
+ghost use Rattle.market.specs.Faults.{unlessDrawn};
 ghost use Rattle.exchange.specs.Tick.{noTrades, executeOf, waitingPlace, bookWaitingOf, countsAfter, refusedWith, tickOf, tickForOf, answerOf};
 use crate::state::Booked;
 use crate::state::Counts;
 use crate::state::UistV1;
-use market::order::Order;
+use market::fault;
+use market::table;
 use market::table::ReadTable;
 use market::table::Table;
 use market::trade;
@@ -23,7 +21,7 @@ pub struct Ticked {
     pub trades: [Trade; 1024],
     pub count: usize,
     pub first: usize,
-    pub number: u32,
+    pub fault: u32,
 }
 
 // What a tick on a lent log answers: the new state, how many orders traded, and the number drawn,
@@ -31,7 +29,7 @@ pub struct Ticked {
 pub struct TickAnswer {
     pub exchange: UistV1,
     pub traded: usize,
-    pub number: u32,
+    pub fault: u32,
 }
 
 // The resting orders that stay, and the trades of the others.
@@ -42,11 +40,11 @@ struct Executed {
     count: usize,
 }
 
-// A book, how many of its orders rest, and the counter.
+// A book, how many of its orders rest, and how many numbers were given.
 struct Booking {
     book: [Booked; 1024],
     at: usize,
-    number: u64,
+    ids: u64,
 }
 
 fn no_trades() -> [Trade; 1024]
@@ -54,13 +52,6 @@ fn no_trades() -> [Trade; 1024]
 {
     let t = Trade::blank();
     [t; 1024]
-}
-
-// Has the table a row for this symbol, where `present` is what it has at the symbol's place?
-fn listed(symbol: u32, present: bool) -> bool
-    ensures { λ r. ⌜ r ≡ cond (ltb symbol 256) present false ⌝ }
-{
-    if symbol < 256 { present } else { false }
 }
 
 // Trades the resting orders that meet their rule, in book order. What stays moves up in its own
@@ -81,7 +72,7 @@ fn execute_orders(book: [Booked; 1024], resting: usize, quotes: Table) -> Execut
         let at = (symbol % 256) as usize;
         let q = quotes.rows[at];
         let present = quotes.present[at];
-        let fill = trade::execute(o, listed(symbol, present), q);
+        let fill = trade::execute(o, table::has_row(symbol, present), q);
         match fill {
             Fill::Traded(t) => {
                 trades[count] = t;
@@ -122,7 +113,7 @@ fn book_waiting(old: [Booked; 1024], from: usize, waits: usize, b: Booking) -> B
 {
     let mut book = b.book;
     let mut at = b.at;
-    let mut number = b.number;
+    let mut ids = b.ids;
     let turns = waits + waits;
     let mut i: usize = 0;
     while i < turns {
@@ -131,49 +122,32 @@ fn book_waiting(old: [Booked; 1024], from: usize, waits: usize, b: Booking) -> B
         let o = w.order;
         let sells = i < waits;
         if o.is_sell() == sells {
-            book[at] = Booked {
-                number: number,
-                order: o,
-            };
+            book[at] = Booked::numbered(ids, o);
             at = at + 1;
-            number = std::num::wrapping_add_u64(number, 1);
+            ids = std::num::wrapping_add_u64(ids, 1);
         }
         i = i + 1;
     }
     Booking {
         book: book,
         at: at,
-        number: number,
+        ids: ids,
     }
 }
 
-// 16, then the number that the table's rows drew, or 0.
-fn tick_fault(c: Counts, fault: u32) -> u32
-    ensures { λ r. ⌜ r ≡ cond (brokenOf c) 16 fault ⌝ }
-{
-    if c.broken() { 16 } else { fault }
-}
-
-// None of `n` where a number is drawn.
-fn count_unless(number: u32, n: usize) -> usize
-    ensures { λ r. ⌜ r ≡ unlessDrawn number n 0 ⌝ }
-{
-    if number != 0 { 0 } else { n }
-}
-
-// The counts after a tick that booked `resting` orders up to the number `given` and traded `count`;
+// The counts after a tick that booked `resting` orders up to the number `ids` and traded `count`;
 // as they were where a number is drawn.
-fn counts_after(number: u32, c: Counts, resting: usize, given: u64, count: usize) -> Counts
-    requires { ⌜ (number ≡ 0 → c .logged + count ≤ c .taken) ⌝ }
-    ensures { λ r. ⌜ r ≡ unlessDrawn number (countsAfter c resting given count) c ⌝ }
+fn counts_after(fault: u32, c: Counts, resting: usize, ids: u64, count: usize) -> Counts
+    requires { ⌜ (fault ≡ 0 → c .logged + count ≤ c .taken) ⌝ }
+    ensures { λ r. ⌜ r ≡ unlessDrawn fault (countsAfter c resting ids count) c ⌝ }
 {
-    if number != 0 {
+    if fault != 0 {
         return c;
     }
     Counts {
         resting: resting,
         waits: 0,
-        given: given,
+        ids: ids,
         taken: c.taken,
         logged: c.logged + count as u64,
         room: c.room,
@@ -181,8 +155,8 @@ fn counts_after(number: u32, c: Counts, resting: usize, given: u64, count: usize
 }
 
 // No trades, the state as it was.
-fn refused(e: UistV1, number: u32) -> Ticked
-    ensures { λ r. ⌜ r ≡ refusedWith e number ⌝ }
+fn refused(e: UistV1, fault: u32) -> Ticked
+    ensures { λ r. ⌜ r ≡ refusedWith e fault ⌝ }
 {
     let trades = no_trades();
     Ticked {
@@ -190,7 +164,7 @@ fn refused(e: UistV1, number: u32) -> Ticked
         trades: trades,
         count: 0,
         first: 0,
-        number: number,
+        fault: fault,
     }
 }
 
@@ -202,9 +176,9 @@ impl UistV1 {
     {
         let table = quotes.table();
         let c = self.counts;
-        let number = tick_fault(c, table.fault);
-        let resting = count_unless(number, c.resting);
-        let waits = count_unless(number, c.waits);
+        let fault = fault::first(c.fault(), table.fault);
+        let resting = fault::count_unless(fault, c.resting);
+        let waits = fault::count_unless(fault, c.waits);
         let book = self.book;
         let x = execute_orders(book, resting, table);
         let stay = x.book;
@@ -216,11 +190,11 @@ impl UistV1 {
             Booking {
                 book: stay,
                 at: x.kept,
-                number: c.given,
+                ids: c.ids,
             },
         );
         let booked = b.book;
-        let counts = counts_after(number, c, b.at, b.number, x.count);
+        let counts = counts_after(fault, c, b.at, b.ids, x.count);
         Ticked {
             exchange: UistV1 {
                 book: booked,
@@ -228,8 +202,8 @@ impl UistV1 {
             },
             trades: trades,
             count: x.count,
-            first: count_unless(number, c.logged as usize),
-            number: number,
+            first: fault::count_unless(fault, c.logged as usize),
+            fault: fault,
         }
     }
 
@@ -237,9 +211,10 @@ impl UistV1 {
     pub fn tick_for(self, quotes: ReadTable, log_length: usize) -> Ticked
         ensures { λ r. ⌜ r ≡ tickForOf self (quotes .table) «log_length» ⌝ }
     {
-        let room = self.counts.room;
-        if log_length as u64 != room {
-            return refused(self, 16);
+        let c = self.counts;
+        let fault = c.fault_for(log_length);
+        if fault != 0 {
+            return refused(self, fault);
         }
         self.tick(quotes)
     }
@@ -253,7 +228,7 @@ impl Ticked {
         TickAnswer {
             exchange: e,
             traded: self.count,
-            number: self.number,
+            fault: self.fault,
         }
     }
 }

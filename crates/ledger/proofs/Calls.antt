@@ -1,47 +1,46 @@
 -- Each call of the program meets the ledger's step, and answers alike. Assumes nothing.
-use Prim.Native.Nat.{ℕ, zero, suc, _+_, _<_, _^_}
+use Prim.Native.Nat.{ℕ, zero, suc, _<_, _^_}
 use native.Mathlib.Omega.{arith}
 use mathlib.Core.Bool.{Bool, true, false, not, cond, _||_}
 use mathlib.Core.Path.{_≡_, refl, _∙_, sym, ap, ap₂, subst}
 use mathlib.Core.List.{List, [], _∷_, _++_}
-use mathlib.Core.Option.{Option, none, some}
 use lib.Dec.{eqb, ltb}
 use lib.Ieee.{Float}
 use lib.Ieee.Scale.{finite}
 use lib.ListN.{length}
 use borrow.Author.Tests.{eq-eqb}
-use Rattle.lists.specs.Lists.{over, stored, given}
+use Rattle.lists.specs.Lists.{over, stored}
 use Rattle.lists.proofs.Over.{length-over, stored-over}
-use Rattle.market.specs.Numbers.{Test, _draws_, drawn, unlessDrawn}
+use Rattle.market.specs.Faults.{Test, _draws_, drawn, unlessDrawn, firstDrawn}
 use Rattle.market.specs.Orders.{zero64}
 use Rattle.market.specs.Quotes.{tableTests, tableOf}
 use Rattle.market.specs.declared.order.Order.{Order}
 use Rattle.market.specs.declared.quote.Quote.{Quote}
 use Rattle.market.specs.declared.trade.Trade.{Trade}
 use Rattle.market.specs.declared.weight.Weight.{Weight}
-use Rattle.market.proofs.Numbers.{table-numbered, numbered-append, append-none, none-drawn}
+use Rattle.market.proofs.Tables.{table-numbered}
+use Rattle.market.proofs.Faults.{numbered-append, append-none, none-drawn}
 use Rattle.account.specs.declared.BrokerCashEvent.the-variants.{WithdrawSuccess, WithdrawFailure, DepositSuccess, OperationFailure, NotFinite}
 use Rattle.orders.specs.Orders.{Taken, fillsOf}
 use Rattle.exchange.specs.State.{brokenOf}
 use Rattle.rules.specs.Amounts.{plus, minus, below}
 use Rattle.rules.specs.Money.{withCash}
 use Rattle.rules.specs.Values.{totalValue}
-use Rattle.rules.specs.Weights.{planOf}
-use Rattle.broker.specs.State.{moneyOf}
+use Rattle.rules.specs.Weights.{planOf, Plan}
+use Rattle.portfolio.specs.State.{moneyOf}
 use Rattle.broker.specs.Send as Send
 use Rattle.broker.specs.Send.{eventsOf, sentAll}
 use Rattle.broker.specs.Cash as Cash
 use Rattle.broker.specs.Cash.{answered, cashOf, cashMoved, depositOf, withdrawOf}
-use Rattle.broker.specs.Liquidate as Liquidate
 use Rattle.broker.specs.Liquidate.{liquidatedBy, liquidateOf}
 use Rattle.broker.specs.Check.{checkedBy}
 use Rattle.market.specs.Weights.{weightRows}
 use Rattle.broker.specs.Update.{weighedBy}
-use Rattle.broker.specs.Lent.{sendListNumber, sendListBroker, sendListEvents, checkFor, tradesIn, logWith, checkBroker, checkTraded, checkLog, updateFor, checkedOn, planOn, updateNumberOf, updateBroker, updateTotal, updateSent, updateEvents, updateLog}
+use Rattle.broker.specs.Lent.{sendListFault, sendListBroker, sendListEvents, checkFor, tradesIn, logWith, checkBroker, checkTraded, checkLog, updateFor, checkedOn, planOn, updateFaultOf, updateBroker, updateTotal, updateSent, updateEvents, updateLog}
 use Rattle.broker.specs.declared.state.UistBroker.{UistBroker}
 use Rattle.market.specs.declared.order.OrderEvent.{OrderEvent}
 use Rattle.broker.specs.declared.cash.CashMoved.{CashMoved}
-use Rattle.ledger.specs.Calls.{Call, deposit, withdraw, liquidate, send, sendList, insert, delete, check, update, Answer, number, deposited, withdrawn, refused, event, events, traded, updated}
+use Rattle.ledger.specs.Calls.{Call, deposit, withdraw, liquidate, send, sendList, insert, delete, check, update, Answer, fault, deposited, withdrawn, event, events, traded, updated}
 use Rattle.ledger.specs.Ledger as Ledger
 use Rattle.ledger.specs.Ledger.{Ledger, withMoney, sendingAll, sendEvents, liquidating, checking, afterWeights, checkTests, updateTests, callTests, acting, weighAnswer, answerAs, movedAs}
 use Rattle.ledger.specs.Program as Program
@@ -142,15 +141,15 @@ module _ (b : UistBroker) (L : Ledger) (m : Stands b L) where
   unfolding Send.sendOf Ledger.step callTests acting answerAs drawn
   sends o = rw (unbroken b L m) (send-stands b L m o, ap event (event-same b L m o))
 
-  list-number : (l : List Order) (e : List OrderEvent) → sendListNumber b l e ≡ drawn ((ltb (length e) (length l) draws 15) ∷ [])
-  unfolding sendListNumber drawn
+  list-number : (l : List Order) (e : List OrderEvent) → sendListFault b l e ≡ drawn ((ltb (length e) (length l) draws 15) ∷ [])
+  unfolding sendListFault drawn
   list-number l e = rw (unbroken b L m)
 
   list-by : (l : List Order) (e : List OrderEvent) (n : ℕ) → Stands (unlessDrawn n (sentAll b l) b) (unlessDrawn n (sendingAll L l) L) × (events n (unlessDrawn n (over (eventsOf b l) e) e) ≡ events n (unlessDrawn n (over (sendEvents L l) e) e))
   list-by l e zero = (sends-stand b L l m, ap (λ x. events 0 (over x e)) (events-same b L l m))
   list-by l e (suc n) = (m, refl)
 
-  pub sends-list : (l : List Order) (e : List OrderEvent) → Stands (sendListBroker b l e) (Ledger.step L (sendList l e)) × (events (sendListNumber b l e) (sendListEvents b l e) ≡ Ledger.answer L (sendList l e))
+  pub sends-list : (l : List Order) (e : List OrderEvent) → Stands (sendListBroker b l e) (Ledger.step L (sendList l e)) × (events (sendListFault b l e) (sendListEvents b l e) ≡ Ledger.answer L (sendList l e))
   unfolding sendListBroker sendListEvents Ledger.step callTests acting answerAs
   sends-list l e = rw (list-number l e) (list-by l e (drawn ((ltb (length e) (length l) draws 15) ∷ [])))
 
@@ -158,9 +157,9 @@ module _ (b : UistBroker) (L : Ledger) (m : Stands b L) where
   unfolding Ledger.step callTests acting answerAs drawn
   inserts o = (insert-stands b L m o, ap event (insert-event b L m o))
 
-  pub removes : (n : ℕ) → Stands (Send.deleteOf b n .broker) (Ledger.step L (delete n)) × (number (Send.deleteOf b n .number) ≡ Ledger.answer L (delete n))
+  pub removes : (n : ℕ) → Stands (Send.deleteOf b n .broker) (Ledger.step L (delete n)) × (fault (Send.deleteOf b n .fault) ≡ Ledger.answer L (delete n))
   unfolding Ledger.step callTests acting answerAs drawn
-  removes n = (delete-stands b L m n, ap number (delete-number b L m n))
+  removes n = (delete-stands b L m n, ap fault (delete-number b L m n))
 
 -- ---- checks and updates
 
@@ -262,21 +261,20 @@ module _ (l₀ : List Trade) (s : Held) (L : Ledger) (m : Meets l₀ s L) (h : l
     update-meets = rw update-number (updated-by (drawn (updateTests t f w (length e))) refl)
 
     -- the four answers of an update, by its plan
-    abbrev weighed : Option (List Order) → Answer
+    abbrev weighed : Plan → Answer
     weighed p =
-        updated (given p 13 (λ l. 0)) (given p zero64 (λ l. totalValue (moneyOf (checkedOn (s .broker) t f .portfolio)))) (given p 0 length)
-        (given p e (λ l. over (eventsOf (checkedOn (s .broker) t f) l) e))
+        updated (p .fault) (unlessDrawn (p .fault) (totalValue (moneyOf (checkedOn (s .broker) t f .portfolio))) zero64) (length (p .orders))
+        (over (eventsOf (checkedOn (s .broker) t f) (p .orders)) e)
 
-    weigh-answer : Stands (checkedOn (s .broker) t f) (checking L t f) → (p : Option (List Order)) → weighed p ≡ weighAnswer (checking L t f) p e
-    weigh-answer k none = refl
-    weigh-answer k (some l) =
-        ap₂ (λ x y. updated 0 (totalValue x) (length l) (over y e)) (k .money) (events-same (checkedOn (s .broker) t f) (checking L t f) l k)
+    weigh-answer : Stands (checkedOn (s .broker) t f) (checking L t f) → (p : Plan) → weighed p ≡ weighAnswer (checking L t f) p e
+    weigh-answer k p =
+        ap₂ (λ x y. updated (p .fault) (unlessDrawn (p .fault) (totalValue x) zero64) (length (p .orders)) (over y e)) (k .money) (events-same (checkedOn (s .broker) t f) (checking L t f) (p .orders) k)
 
     answered-by : (n : ℕ) → drawn (updateTests t f w (length e)) ≡ n →
-        updated (unlessDrawn n (given (planOn (s .broker) t f w) 13 (λ l. 0)) n)
-        (unlessDrawn n (given (planOn (s .broker) t f w) zero64 (λ l. totalValue (moneyOf (checkedOn (s .broker) t f .portfolio)))) zero64)
-        (unlessDrawn n (given (planOn (s .broker) t f w) 0 length) 0)
-        (unlessDrawn n (given (planOn (s .broker) t f w) e (λ l. over (eventsOf (checkedOn (s .broker) t f) l) e)) e)
+        updated (firstDrawn n (planOn (s .broker) t f w .fault))
+        (unlessDrawn n (unlessDrawn (planOn (s .broker) t f w .fault) (totalValue (moneyOf (checkedOn (s .broker) t f .portfolio))) zero64) zero64)
+        (unlessDrawn n (length (planOn (s .broker) t f w .orders)) 0)
+        (unlessDrawn n (over (eventsOf (checkedOn (s .broker) t f) (planOn (s .broker) t f w .orders)) e) e)
         ≡ unlessDrawn n (weighAnswer (checking L t f) (planOf (checking L t f .money) w) e) (updated n zero64 0 e)
     answered-by (suc n) d = refl
     answered-by zero d =
@@ -284,7 +282,7 @@ module _ (l₀ : List Trade) (s : Held) (L : Ledger) (m : Meets l₀ s L) (h : l
         ∙ weigh-answer (checked-stands d) (planOf (checking L t f .money) w)
 
     pub update-answer : Program.answer s (update t f w e) ≡ Ledger.answer L (update t f w e)
-    unfolding Program.answer updateNumberOf updateTotal updateSent updateEvents callTests answerAs
+    unfolding Program.answer updateFaultOf updateTotal updateSent updateEvents callTests answerAs
     update-answer = rw update-number (answered-by (drawn (updateTests t f w (length e))) refl)
 
   -- ---- any call

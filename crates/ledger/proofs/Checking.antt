@@ -5,9 +5,9 @@ use mathlib.Core.Bool.{Bool, true, false, cond, _||_}
 use mathlib.Core.Path.{_≡_, refl, _∙_, sym, ap, subst, fun-ext}
 use mathlib.Core.List.{List, [], _∷_, _++_, foldl}
 use mathlib.Core.Option.{Option, none, some}
-use Rattle.lists.specs.Lists.{given, holds, All}
+use Rattle.lists.specs.Lists.{holds, All}
 use Rattle.lists.proofs.Each.{length-each}
-use Rattle.market.specs.Numbers.{drawn}
+use Rattle.market.specs.Faults.{drawn}
 use Rattle.market.specs.Orders.{zero64, isSell}
 use Rattle.market.specs.Quotes.{tableTests, tableOf, rowFor, rowAt}
 use Rattle.market.specs.Trades.{meetsRule, tradeOf, tradeOn}
@@ -23,17 +23,19 @@ use Rattle.exchange.proofs.Books.{Books, books-trades, books-tick}
 use Rattle.rules.specs.Amounts.{plus, negated, below}
 use Rattle.rules.specs.Money.{fetched, settled, failedIf}
 use Rattle.rules.specs.Weights.{planOf}
-use Rattle.broker.specs.State.{moneyOf}
+use Rattle.portfolio.specs.State.{moneyOf}
 use Rattle.broker.specs.Send.{sentAll}
+use Rattle.portfolio.specs.Liquidate as Sales
 use Rattle.broker.specs.Liquidate as Liquidate
 use Rattle.broker.specs.Check as Check
 use Rattle.rules.specs.Liquidation.{buffer}
-use Rattle.broker.specs.Check.{settleOne, mergeOf, failedOf, rescuedBy, bookedBy, checkedBy}
+use Rattle.portfolio.specs.Booking.{settleOne, mergeOf}
+use Rattle.broker.specs.Check.{failedOf, rescuedBy, bookedBy, checkedBy}
 use Rattle.broker.specs.Update.{planAfter, weighedBy}
-use Rattle.broker.specs.declared.state.Portfolio.{Portfolio}
+use Rattle.portfolio.specs.declared.state.Portfolio.{Portfolio}
 use Rattle.broker.specs.declared.state.UistBroker.{UistBroker}
 use Rattle.ledger.specs.Ledger as Ledger
-use Rattle.ledger.specs.Ledger.{Ledger, sendingAll, booking, rescuing, checking, afterWeights}
+use Rattle.ledger.specs.Ledger.{Ledger, booking, rescuing, checking, afterWeights}
 use Rattle.ledger.proofs.Views.{settles-view, settles-wide}
 use Rattle.ledger.proofs.Fetching.{row-below, merge-fetched}
 use Rattle.ledger.proofs.Standing.{Stands, cash-same, sends-stand, liquidate-stands, success-same}
@@ -152,8 +154,8 @@ rescue-stands b L m =
     let a : Check.shortfall b ≡ Ledger.shortfall L = ap (λ x. plus (negated x) buffer) c in
     subst (λ x. Stands x (cond (below (L .money .cash) zero64) (Ledger.failedUnless (Ledger.succeeds L (Ledger.shortfall L)) (Ledger.liquidating L (Ledger.shortfall L))) L))
     (sym
-    (ap (λ x. cond (below x zero64) (Check.failedUnless (Liquidate.succeeds (Liquidate.salesOf b (Check.shortfall b))) (Liquidate.liquidatedBy b (Check.shortfall b))) b) c
-    ∙ ap (λ x. cond (below (L .money .cash) zero64) (Check.failedUnless (Liquidate.succeeds (Liquidate.salesOf b x)) (Liquidate.liquidatedBy b x)) b) a
+    (ap (λ x. cond (below x zero64) (Check.failedUnless (Sales.succeeds (Liquidate.salesOf b (Check.shortfall b))) (Liquidate.liquidatedBy b (Check.shortfall b))) b) c
+    ∙ ap (λ x. cond (below (L .money .cash) zero64) (Check.failedUnless (Sales.succeeds (Liquidate.salesOf b x)) (Liquidate.liquidatedBy b x)) b) a
     ∙ ap (λ x. cond (below (L .money .cash) zero64) (Check.failedUnless x (Liquidate.liquidatedBy b (Ledger.shortfall L))) b) (success-same b L m (Ledger.shortfall L))))
     (rescue-by b L m (below (L .money .cash) zero64))
 
@@ -167,10 +169,6 @@ check-stands b L m t f dt df h = rescue-stands _ _ (booking-stands b L m t f dt 
 pub plan-same : (b : UistBroker) (L : Ledger) → Stands b L → (w : List Weight) → planAfter b w ≡ planOf (L .money) w
 plan-same b L m w = ap (λ n. planOf n w) (m .money)
 
-weigh-by : (b : UistBroker) (L : Ledger) → Stands b L → (p : Option (List Order)) → Stands (given p b (sentAll b)) (given p L (sendingAll L))
-weigh-by b L m none = m
-weigh-by b L m (some l) = sends-stand b L l m
-
 pub weigh-stands : (b : UistBroker) (L : Ledger) → Stands b L → (w : List Weight) → Stands (weighedBy b w) (afterWeights L w)
 unfolding weighedBy
-weigh-stands b L m w = subst (λ p. Stands (given p b (sentAll b)) (afterWeights L w)) (sym (plan-same b L m w)) (weigh-by b L m (planOf (L .money) w))
+weigh-stands b L m w = subst (λ p. Stands (sentAll b (p .orders)) (afterWeights L w)) (sym (plan-same b L m w)) (sends-stand b L (planOf (L .money) w .orders) m)

@@ -12,7 +12,7 @@ use lib.ListN.{length, take, getD, replicate, length-replicate, getD-replicate}
 use borrow.Author.Tests.{ltb-true, le-ltb}
 use Rattle.lists.specs.Lists.{All}
 use Rattle.lists.proofs.Over.{take-over}
-use Rattle.market.specs.Numbers.{_draws_, drawn, unlessDrawn}
+use Rattle.market.specs.Faults.{_draws_, drawn, unlessDrawn}
 use Rattle.market.specs.Orders.{zero64}
 use Rattle.market.specs.Quotes.{tableTests, tableOf}
 use Rattle.market.specs.declared.quote.Quote.{Quote}
@@ -26,13 +26,13 @@ use Rattle.costs.specs.Kept.{costsOf}
 use Rattle.orders.specs.Orders.{Taken, noOrders, erase}
 use Rattle.orders.proofs.Shape.{Shape, kept, quiet, acting, erasing}
 use Rattle.orders.proofs.Lives as Lives
-use Rattle.exchange.specs.State.{fresh, blankBooked}
+use Rattle.exchange.specs.State.{fresh, blankRow}
 use Rattle.rules.specs.Money.{unlessZero}
 use Rattle.rules.specs.Basis.{costBasis}
-use Rattle.broker.specs.State.{noFunds, heldAt, pendingIf, pendingAt}
+use Rattle.portfolio.specs.State.{noFunds, heldAt, pendingIf, pendingAt}
 use Rattle.broker.specs.Build.{buildOf, eachFinite, costTests, freshBroker, noBroker}
-use Rattle.broker.specs.Lent.{buildFor, logTest}
-use Rattle.broker.specs.Read.{brokerNumber}
+use Rattle.broker.specs.Lender.{logTest, brokerFault}
+use Rattle.broker.specs.Lent.{buildFor}
 use Rattle.market.specs.declared.order.OrderEvent.{OrderEvent}
 use Rattle.ledger.specs.Calls.{Call, deposit, withdraw, liquidate, send, sendList, insert, delete, check, update}
 use Rattle.ledger.specs.Ledger as Ledger
@@ -62,8 +62,8 @@ module _ (l₀ : List Trade) (h : length l₀ < 2 ^ 64) (s : Held) (L : Ledger) 
   unfolding drawn
   no-sixteen = ap (λ x. drawn ((x draws 16) ∷ [])) (log-test l₀ s L m h)
 
-  no-sixteen-alone : brokerNumber (s .broker .exchange .counts) ≡ 0
-  unfolding brokerNumber drawn
+  no-sixteen-alone : brokerFault (s .broker) ≡ 0
+  unfolding drawn
   no-sixteen-alone = ap (λ x. drawn ((x draws 16) ∷ [])) (unbroken (s .broker) L (m .stands))
 
 -- ---- the builder's result
@@ -96,15 +96,15 @@ module _ (costs : TradeCosts) (first : List Quote) (l₀ : List Trade) where
   unfolding drawn
   costs-none d = ap (λ b. drawn ((b draws 14) ∷ eachFinite (costsOf costs))) (le-ltb 16 (costs .count) (d .few)) ∙ finite-none (costsOf costs) (d .each-finite)
 
-  draws-none : drawn (costTests (costs .count) (costsOf costs)) ≡ 0 → drawn (tableTests 0 first) ≡ 0 → buildFor costs first l₀ .number ≡ 0
+  draws-none : drawn (costTests (costs .count) (costsOf costs)) ≡ 0 → drawn (tableTests 0 first) ≡ 0 → buildFor costs first l₀ .fault ≡ 0
   unfolding buildOf
   draws-none c t = ap (λ n. unlessDrawn n (tableOf first .fault) n) c ∙ table-fault first ∙ t
 
-  build-table : buildFor costs first l₀ .number ≡ 0 → drawn (tableTests 0 first) ≡ 0
+  build-table : buildFor costs first l₀ .fault ≡ 0 → drawn (tableTests 0 first) ≡ 0
   unfolding buildOf
   build-table e = sym (table-fault first) ∙ first-drawn (drawn (costTests (costs .count) (costsOf costs))) (tableOf first .fault) e .1
 
-  built-broker : buildFor costs first l₀ .number ≡ 0 → buildFor costs first l₀ .broker ≡ freshBroker costs (tableOf first) (length l₀)
+  built-broker : buildFor costs first l₀ .fault ≡ 0 → buildFor costs first l₀ .broker ≡ freshBroker costs (tableOf first) (length l₀)
   unfolding buildOf
   built-broker e = ap (λ n. unlessDrawn n (freshBroker costs (tableOf first) (length l₀)) noBroker) e
 
@@ -122,7 +122,7 @@ module _ (costs : TradeCosts) (first : List Quote) (l₀ : List Trade) where
             taken-is = refl;
             logged-is = refl;
             room-is = refl;
-            size = length-replicate 1024 blankBooked;
+            size = length-replicate 1024 blankRow;
             fit = record { traded = omega arith; room-left = omega arith; places = omega arith };
           };
           money =
@@ -137,7 +137,7 @@ module _ (costs : TradeCosts) (first : List Quote) (l₀ : List Trade) where
         log = refl;
       }
 
-  built-meets : buildFor costs first l₀ .number ≡ 0 → Meets l₀ (built costs first l₀) (start (costsOf costs) first (length l₀))
+  built-meets : buildFor costs first l₀ .fault ≡ 0 → Meets l₀ (built costs first l₀) (start (costsOf costs) first (length l₀))
   built-meets e = subst (λ b. Meets l₀ (record { broker = b; log = l₀ }) (start (costsOf costs) first (length l₀))) (sym (built-broker e)) (fresh-meets (build-table e))
 
 -- ---- the ledger has the claim

@@ -2,7 +2,7 @@
 use mathlib.Core.Path.{refl}
 use lib.Ieee as Ieee
 use Rattle.floats.specs.Whole.{floorOf, ceilOf}
-use Rattle.market.specs.Numbers.{drawn}
+use Rattle.market.specs.Faults.{drawn}
 use Rattle.market.specs.Quotes.{emptyTable}
 use Rattle.market.specs.Trades.{tradeOn}
 use Rattle.costs.specs.Costs.{tradeImpact, tradeImpactTotal}
@@ -11,15 +11,15 @@ use Rattle.exchange.specs.State.{fresh}
 use Rattle.exchange.specs.Insert.{insertOf}
 use Rattle.exchange.specs.Tick.{ticked, tickOf}
 use Rattle.rules.specs.Values.{symbols, liquidationValue}
-use Rattle.rules.specs.Liquidation.{walk, salesFor}
+use Rattle.rules.specs.Liquidation.{salesFrom, salesFor}
 use Rattle.rules.specs.Weights.{sharesFor, orderFor, wanted, planOf}
 use Rattle.rules.specs.Basis.{basisStep, costBasis}
-use Rattle.broker.specs.State.{noFunds}
+use Rattle.portfolio.specs.State.{noFunds}
 use Rattle.broker.specs.Send.{sendOf, sentOne, eventFor}
 use Rattle.broker.specs.Cash.{cashMoved, withdrawOf}
 use Rattle.broker.specs.Liquidate.{liquidateOf, liquidatedBy}
 use Rattle.ledger.specs.Examples.{Examples}
 
 pub examples : Examples
-unfolding Ieee.le Ieee.ofInt Ieee.sub Ieee.mul Ieee.div Ieee.ofBits floorOf ceilOf drawn emptyTable tradeOn tradeImpact tradeImpactTotal costsOf noCosts withCost fresh insertOf ticked tickOf symbols liquidationValue walk salesFor sharesFor orderFor wanted planOf basisStep costBasis noFunds sendOf sentOne eventFor cashMoved withdrawOf liquidateOf liquidatedBy
+unfolding Ieee.le Ieee.ofInt Ieee.sub Ieee.mul Ieee.div Ieee.ofBits floorOf ceilOf drawn emptyTable tradeOn tradeImpact tradeImpactTotal costsOf noCosts withCost fresh insertOf ticked tickOf symbols liquidationValue salesFrom salesFor sharesFor orderFor wanted planOf basisStep costBasis noFunds sendOf sentOne eventFor cashMoved withdrawOf liquidateOf liquidatedBy
 examples other = (refl, (refl, (refl, (refl, (refl, (refl, (refl, (refl, (refl, (refl, (refl, (refl, (refl, (refl, _))))))))))))))

@@ -9,14 +9,14 @@ use lib.Dec.{eqb, ltb}
 use lib.ListN.{length, getD}
 use borrow.Author.Tests.{ltb-true, eqb-true, eqb-false, ne-eqb, eq-eqb}
 use Rattle.lists.specs.Lists.{each, given}
-use Rattle.market.specs.Numbers.{drawn}
+use Rattle.market.specs.Faults.{drawn}
 use Rattle.market.specs.Quotes.{noQuote, tableTests, rowFor, tableOf, rowAt}
 use Rattle.market.specs.declared.quote.Quote.{Quote}
 use Rattle.market.specs.declared.table.Table.{Table}
-use Rattle.market.proofs.Numbers.{Ascends, row-ascends}
-use Rattle.market.proofs.Tables.{rows-none, table-row}
+use Rattle.market.proofs.Rows.{Ascends}
+use Rattle.market.proofs.Tables.{row-ascends, rows-none, table-row}
 use Rattle.rules.specs.Money.{put, fetchOne}
-use Rattle.broker.specs.Check.{mergeOf}
+use Rattle.portfolio.specs.Booking.{mergeOf}
 
 -- ---- rows that draw no number ascend
 

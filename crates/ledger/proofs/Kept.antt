@@ -6,7 +6,7 @@ use mathlib.Core.List.{List, [], _∷_, _++_, append-nil, append-assoc}
 use mathlib.Core.Option.{Option, none, some}
 use lib.Ieee.{Float}
 use Rattle.lists.specs.Lists.{given}
-use Rattle.market.specs.Numbers.{drawn, unlessDrawn}
+use Rattle.market.specs.Faults.{drawn, unlessDrawn}
 use Rattle.market.specs.Orders.{zero64}
 use Rattle.market.specs.declared.order.Order.{Order}
 use Rattle.market.specs.declared.quote.Quote.{Quote}
@@ -51,18 +51,18 @@ keeps-unless (suc n) L M new k = keeps L
 keeps-taking : (L M : Ledger) (o : Order) → M .room ≡ L .room → M .orders ≡ takeOn (plain o) (L .orders) → Keeps L (plain o ∷ []) M
 keeps-taking L M o r e = record { room = r; waiting = ap (λ b. b .waiting) e; booked = ap (λ b. b .booked) e; trades = ap (λ b. b .trades) e }
 
-pub keeps-sending : (L : Ledger) (o : Order) → Keeps L (unlessDrawn (sendEvent L o .number) (plain o ∷ []) []) (sending L o)
+pub keeps-sending : (L : Ledger) (o : Order) → Keeps L (unlessDrawn (sendEvent L o .fault) (plain o ∷ []) []) (sending L o)
 unfolding sending
-keeps-sending L o = keeps-unless (sendEvent L o .number) L _ (plain o ∷ []) (keeps-taking L _ o refl refl)
+keeps-sending L o = keeps-unless (sendEvent L o .fault) L _ (plain o ∷ []) (keeps-taking L _ o refl refl)
 
 pub keeps-sending-all : (L : Ledger) (l : List Order) → Keeps L (sentBy L l) (sendingAll L l)
 unfolding sendEvents sendEvent
 keeps-sending-all L [] = keeps L
 keeps-sending-all L (o ∷ l) = keeps-both (keeps-sending L o) (keeps-sending-all (sending L o) l)
 
-keeps-inserting : (L : Ledger) (o : Order) → Keeps L (unlessDrawn (insertEvent L o .number) (plain o ∷ []) []) (inserting L o)
+keeps-inserting : (L : Ledger) (o : Order) → Keeps L (unlessDrawn (insertEvent L o .fault) (plain o ∷ []) []) (inserting L o)
 unfolding inserting
-keeps-inserting L o = keeps-unless (insertEvent L o .number) L _ (plain o ∷ []) (keeps-taking L _ o refl refl)
+keeps-inserting L o = keeps-unless (insertEvent L o .fault) L _ (plain o ∷ []) (keeps-taking L _ o refl refl)
 
 keeps-given : (L M : Ledger) (p : Option (List Order)) → Keeps L [] M → Keeps L (given p [] (sentBy L)) (given p M (sendingAll L))
 keeps-given L M none k = k
@@ -82,8 +82,8 @@ keeps-rescuing L =
     let k = keeps-liquidating L (shortfall L) in
     keeps-cond (below (L .money .cash) zero64) L _ (takesSelling L (shortfall L)) (record { room = k .room; waiting = k .waiting; booked = k .booked; trades = k .trades })
 
-pub keeps-weights : (L : Ledger) (w : List Weight) → Keeps L (given (planOf (L .money) w) [] (sentBy L)) (afterWeights L w)
-keeps-weights L w = keeps-given L L (planOf (L .money) w) (keeps L)
+pub keeps-weights : (L : Ledger) (w : List Weight) → Keeps L (sentBy L (planOf (L .money) w .orders)) (afterWeights L w)
+keeps-weights L w = keeps-sending-all L (planOf (L .money) w .orders)
 
 -- a check books and trades as a tick does, and no more; a shortfall's orders wait
 pub keeps-checking : (L : Ledger) (t f : List Quote) → Keeps (booking L t f) (takesShort (booking L t f)) (checking L t f)

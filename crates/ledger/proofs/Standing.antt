@@ -10,12 +10,12 @@ use lib.Ieee.{Float}
 use lib.ListN.{length}
 use borrow.Author.Tests.{ltb-false, eqb-false}
 use Rattle.lists.specs.Lists.{given}
-use Rattle.market.specs.Numbers.{_draws_, drawn, unlessDrawn}
+use Rattle.market.specs.Faults.{_draws_, drawn, unlessDrawn}
 use Rattle.market.specs.Orders.{eventOf, orderTests}
 use Rattle.market.specs.declared.order.Order.{Order}
-use Rattle.market.proofs.Numbers.{order-numbered, append-none, none-drawn}
-use Rattle.orders.specs.Orders.{plain, restingIn, takeOn, erase}
-use Rattle.exchange.specs.State.{brokenOf}
+use Rattle.market.proofs.Faults.{order-numbered, append-none, none-drawn}
+use Rattle.orders.specs.Orders.{plain, restingIn, bookWidth, takeOn, erase}
+use Rattle.exchange.specs.State.{brokenOf, roomOf}
 use Rattle.exchange.specs.Insert as Exchange
 use Rattle.exchange.specs.Insert.{joined, insertTests}
 use Rattle.exchange.specs.Delete as Deletion
@@ -25,11 +25,11 @@ use Rattle.rules.specs.Amounts.{minus, below}
 use Rattle.rules.specs.Money.{expected, withCash}
 use Rattle.rules.specs.Sends.{sendTestsAt, sendTests}
 use Rattle.rules.specs.Liquidation.{salesFor, debitedBy}
-use Rattle.broker.specs.State.{moneyOf}
+use Rattle.portfolio.specs.State.{moneyOf}
 use Rattle.broker.specs.Send as Send
 use Rattle.broker.specs.Send.{eventFor, takenBy, sentOne, sentAll, eventsOf}
 use Rattle.broker.specs.Cash as Cash
-use Rattle.broker.specs.Liquidate as Liquidate
+use Rattle.portfolio.specs.Liquidate as Sales
 use Rattle.broker.specs.Liquidate.{liquidatedBy, salesOf, failing}
 use Rattle.broker.specs.declared.state.UistBroker.{UistBroker}
 use Rattle.ledger.specs.Ledger as Ledger
@@ -57,18 +57,18 @@ module _ (b : UistBroker) (L : Ledger) (m : Stands b L) where
       })
 
   -- the tests of room read the same
-  rooms : Exchange.roomTests (b .exchange .counts) ≡ roomTests L
+  rooms : roomOf (b .exchange .counts) ≡ roomTests L
   rooms =
       let r = m .books in
-      ap₂ (λ x y. (x draws 10) ∷ (y draws 11) ∷ []) (ap₂ eqb (r .taken-is) (r .room-is)) (ap₂ (λ x y. eqb (x + y) 1024) (r .rest-count) (r .wait-count))
+      ap₂ (λ x y. (x draws 10) ∷ (y draws 11) ∷ []) (ap₂ eqb (r .taken-is) (r .room-is)) (ap₂ (λ x y. eqb (x + y) bookWidth) (r .rest-count) (r .wait-count))
 
   -- an order that draws neither 10 nor 11 has room
   room-left : drawn (roomTests L) ≡ 0 → (length (L .orders .booked) + length (L .orders .waiting) < L .room) × (restingIn (L .orders .booked) + length (L .orders .waiting) < 1024)
   room-left e =
       let ten = none-drawn (eqb (length (L .orders .booked) + length (L .orders .waiting)) (L .room)) 9 _ e in
-      let eleven = none-drawn (eqb (restingIn (L .orders .booked) + length (L .orders .waiting)) 1024) 10 [] (ten .1) in
+      let eleven = none-drawn (eqb (restingIn (L .orders .booked) + length (L .orders .waiting)) bookWidth) 10 [] (ten .1) in
       let p = eqb-false (length (L .orders .booked) + length (L .orders .waiting)) (L .room) (ten .0) in
-      let q = eqb-false (restingIn (L .orders .booked) + length (L .orders .waiting)) 1024 (eleven .0) in
+      let q = eqb-false (restingIn (L .orders .booked) + length (L .orders .waiting)) bookWidth (eleven .0) in
       (omega (arith, m .books .fit .room-left, p), omega (arith, m .books .fit .places, q))
 
   -- ---- a send
@@ -101,7 +101,7 @@ module _ (b : UistBroker) (L : Ledger) (m : Stands b L) where
   pub send-stands : (o : Order) → Stands (sentOne b o) (sending L o)
   unfolding sentOne sending
   send-stands o =
-      subst (λ e. Stands (unlessDrawn (e .number) (takenBy b o) b) (unlessDrawn (sendEvent L o .number) (record { room = L .room; money = expected o (L .money); orders = takeOn (plain o) (L .orders) }) L))
+      subst (λ e. Stands (unlessDrawn (e .fault) (takenBy b o) b) (unlessDrawn (sendEvent L o .fault) (record { room = L .room; money = expected o (L .money); orders = takeOn (plain o) (L .orders) }) L))
       (sym (event-same o)) (unfold sendEvent in taken-by o (drawn (sendTests (L .money) (roomTests L) o)) refl)
 
   -- ---- a direct insertion
@@ -109,7 +109,7 @@ module _ (b : UistBroker) (L : Ledger) (m : Stands b L) where
   insert-number : (o : Order) → drawn (insertTests (b .exchange .counts) o) ≡ drawn (orderTests o ++ roomTests L)
   unfolding drawn
   insert-number o =
-      ap (λ t. drawn ((t draws 16) ∷ (orderTests o ++ Exchange.roomTests (b .exchange .counts)))) unbroken
+      ap (λ t. drawn ((t draws 16) ∷ (orderTests o ++ roomOf (b .exchange .counts)))) unbroken
       ∙ ap (λ l. drawn (orderTests o ++ l)) rooms
 
   inserted-by : (o : Order) (n : ℕ) → drawn (orderTests o ++ roomTests L) ≡ n →
@@ -132,12 +132,12 @@ module _ (b : UistBroker) (L : Ledger) (m : Stands b L) where
   -- ---- a deletion
 
   pub delete-stands : (n : ℕ) → Stands (Send.deleteOf b n .broker) (withOrders L (erase n (L .orders)))
-  unfolding Send.deleteOf Deletion.deleteOf
+  unfolding Send.deleteOf Deletion.deleteOf drawn
   delete-stands n =
       rw unbroken (record { books = books-delete (b .exchange) (L .room) (L .orders) (m .books) n; money = m .money; wide = m .wide; present = m .present; rows = m .rows })
 
-  pub delete-number : (n : ℕ) → Send.deleteOf b n .number ≡ 0
-  unfolding Send.deleteOf Deletion.deleteOf
+  pub delete-number : (n : ℕ) → Send.deleteOf b n .fault ≡ 0
+  unfolding Send.deleteOf Deletion.deleteOf drawn
   delete-number n = rw unbroken
 
   -- ---- cash
@@ -191,9 +191,9 @@ liquidate-stands b L m a =
     subst (λ p. Stands (given p (failing b a) (sentAll b)) (given (salesFor (L .money) a) (withMoney L (debitedBy a (L .money))) (sendingAll L)))
     (sym (sales-same b L m a)) (liquidate-by b L m a (salesFor (L .money) a))
 
-found-same : {A : Type 0} (p : Option A) → Liquidate.succeeds p ≡ Ledger.found p
+found-same : {A : Type 0} (p : Option A) → Sales.succeeds p ≡ Ledger.found p
 found-same none = refl
 found-same (some x) = refl
 
-pub success-same : (b : UistBroker) (L : Ledger) → Stands b L → (a : Float) → Liquidate.succeeds (salesOf b a) ≡ Ledger.succeeds L a
-success-same b L m a = ap Liquidate.succeeds (sales-same b L m a) ∙ found-same (salesFor (L .money) a)
+pub success-same : (b : UistBroker) (L : Ledger) → Stands b L → (a : Float) → Sales.succeeds (salesOf b a) ≡ Ledger.succeeds L a
+success-same b L m a = ap Sales.succeeds (sales-same b L m a) ∙ found-same (salesFor (L .money) a)

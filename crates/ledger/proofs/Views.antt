@@ -15,11 +15,11 @@ use Rattle.market.specs.declared.order.Order.{Order}
 use Rattle.market.specs.declared.trade.Trade.{Trade}
 use Rattle.rules.specs.Amounts.{plus, isZero}
 use Rattle.rules.specs.Money.{Money, put, orZero, unlessZero, adding, taking, paid, settled, effect, expected}
-use Rattle.broker.specs.State.{heldAt, pendingIf, pendingAt, moneyOf}
+use Rattle.portfolio.specs.State.{heldAt, pendingIf, pendingAt, moneyOf}
 use Rattle.broker.specs.Send.{pendingAfter, expecting}
-use Rattle.broker.specs.Check.{settleOf, settledAt, putSettled, settleOne}
-use Rattle.broker.specs.declared.state.Funds.{Funds}
-use Rattle.broker.specs.declared.state.Portfolio.{Portfolio}
+use Rattle.portfolio.specs.Booking.{settleOf, settledAt, putSettled, settleOne}
+use Rattle.portfolio.specs.declared.state.Funds.{Funds}
+use Rattle.portfolio.specs.declared.state.Portfolio.{Portfolio}
 
 -- the arrays have a place for each symbol
 pub record Wide (f : Funds) : Type 0 where

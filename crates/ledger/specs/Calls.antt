@@ -22,7 +22,7 @@ pub data Call : Type 0 where
 -- that a cash mover drew with its amount; an order's event; the lent list of events afterwards; trades booked;
 -- the total value, the number of events, and the lent list afterwards
 pub data Answer : Type 0 where
-  number : ℕ → Answer
+  fault : ℕ → Answer
   deposited withdrawn : Float → Answer
   refused : ℕ → Float → Answer
   event : OrderEvent → Answer

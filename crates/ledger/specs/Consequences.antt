@@ -38,7 +38,7 @@ module _ (costs : TradeCosts) (first : List Quote) (l₀ : List Trade) where
     pub taken-waits : (w : Taken) → Within w (takesAfter costs first (length l₀) past c) → Within (w .order) (waitingOf (bookAfter (past ++ (c ∷ []))))
     -- what the call booked rests after it, under its number
     pub booked-rests : (n : ℕ) → BookedBy brokerCalls (takesAfter costs first (length l₀)) (ordersAfter costs first (length l₀)) past c n →
-        (b : Booked) × (b .number ≡ n) × Within b (restingOf (bookAfter (past ++ (c ∷ []))))
+        (b : Booked) × (b .id ≡ n) × Within b (restingOf (bookAfter (past ++ (c ∷ []))))
 
   -- the rows of the log and the orders that have traded match one to one
   abbrev pub NoTwoRows : List Call → Type 0

@@ -8,7 +8,7 @@ use lib.Dec.{eqb}
 use lib.Ieee.{Float}
 use lib.ListN.{length, take}
 use Rattle.lists.specs.Lists.{over, gather, given, All}
-use Rattle.market.specs.Numbers.{drawn, unlessDrawn}
+use Rattle.market.specs.Faults.{drawn, unlessDrawn}
 use Rattle.market.specs.Orders.{zero64}
 use Rattle.market.specs.Quotes.{tableTests}
 use Rattle.market.specs.declared.order.Order.{Order}
@@ -25,9 +25,8 @@ use Rattle.rules.specs.Amounts.{below}
 use Rattle.rules.specs.Basis.{costBasis}
 use Rattle.rules.specs.Liquidation.{salesFor}
 use Rattle.rules.specs.Weights.{planOf}
-use Rattle.broker.specs.State.{moneyOf}
-use Rattle.broker.specs.Lent.{logTest}
-use Rattle.broker.specs.Read.{brokerNumber}
+use Rattle.portfolio.specs.State.{moneyOf}
+use Rattle.broker.specs.Lender.{logTest, brokerFault}
 use Rattle.market.specs.declared.order.OrderEvent.{OrderEvent}
 use Rattle.ledger.specs.Calls.{Call, deposit, withdraw, liquidate, send, sendList, insert, delete, check, update}
 use Rattle.ledger.specs.Ledger as Ledger
@@ -62,7 +61,7 @@ deletes n (update t f w e) = false
 
 -- of orders that are sent or inserted, those whose event has no number
 abbrev pub takenBy : List OrderEvent → List Taken
-takenBy l = gather (λ e. unlessDrawn (e .number) (plain (e .order) ∷ []) []) l
+takenBy l = gather (λ e. unlessDrawn (e .fault) (plain (e .order) ∷ []) []) l
 
 -- of orders sent one after the other
 abbrev pub sentBy : Ledger → List Order → List Taken
@@ -86,7 +85,7 @@ takesActing L (sendList l e) = sentBy L l
 takesActing L (insert o) = takenBy (insertEvent L o ∷ [])
 takesActing L (delete n) = []
 takesActing L (check t f) = takesShort (booking L t f)
-takesActing L (update t f w e) = takesShort (booking L t f) ++ given (planOf (checking L t f .money) w) [] (sentBy (checking L t f))
+takesActing L (update t f w e) = takesShort (booking L t f) ++ sentBy (checking L t f) (planOf (checking L t f .money) w .orders)
 
 -- a call that draws a number before it acts takes none
 abbrev pub takes : Ledger → Call → List Taken
@@ -109,7 +108,7 @@ pub record Compared (l₀ : List Trade) (s : Held) (L : Ledger) : Type 0 where
   pub logged : take (s .broker .exchange .counts .logged) (s .log) ≡ L .orders .trades
   -- no read draws 16, with the log lent or without
   pub sound : drawn (logTest (s .broker) (s .log) ∷ []) ≡ 0
-  pub sound-alone : brokerNumber (s .broker .exchange .counts) ≡ 0
+  pub sound-alone : brokerFault (s .broker) ≡ 0
   -- resting orders with their numbers, and waiting ones
   pub resting : restingOf (s .broker .exchange) ≡ restingFrom 0 (L .orders .booked)
   pub waiting : waitingOf (s .broker .exchange) ≡ ordersOf (L .orders .waiting)

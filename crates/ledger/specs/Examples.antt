@@ -3,7 +3,7 @@ use Prim.Native.Nat.{ℕ}
 use mathlib.Core.Bool.{false}
 use mathlib.Core.Path.{_≡_}
 use mathlib.Core.List.{List, [], _∷_, foldl}
-use mathlib.Core.Option.{Option, none, some}
+use mathlib.Core.Option.{none, some}
 use lib.IntN.{pos}
 use lib.Ieee as Ieee
 use lib.Ieee.{Float, binary64}
@@ -21,15 +21,15 @@ use Rattle.market.specs.declared.weight.Weight.{Weight}
 use Rattle.costs.specs.declared.BrokerCost.the-variants.{Flat}
 use Rattle.costs.specs.declared.TradeCosts.{TradeCosts}
 use Rattle.costs.specs.Kept.{noCosts, withCost}
-use Rattle.account.specs.Account.{cashNumber}
-use Rattle.exchange.specs.State.{fresh, restingOf, waitingOf}
+use Rattle.account.specs.Account.{cashFault}
+use Rattle.exchange.specs.State.{bookedAs, fresh, restingOf, waitingOf}
 use Rattle.exchange.specs.Insert.{insertOf}
 use Rattle.exchange.specs.Tick.{tickOf}
 use Rattle.exchange.specs.declared.state.Booked.{Booked}
 use Rattle.exchange.specs.declared.state.UistV1.{UistV1}
 use Rattle.rules.specs.Basis.{costBasis}
-use Rattle.rules.specs.Weights.{planOf}
-use Rattle.broker.specs.State.{moneyOf}
+use Rattle.rules.specs.Weights.{planOf, Plan, planAs}
+use Rattle.portfolio.specs.State.{moneyOf}
 use Rattle.broker.specs.Build.{freshBroker}
 use Rattle.broker.specs.Send.{sendOf, withFunds}
 use Rattle.broker.specs.Cash.{withCash, cashOf, withdrawOf}
@@ -106,15 +106,15 @@ trades = trade Buy 10 100 ∷ trade Sell 10 120 ∷ trade Buy 5 60 ∷ []
 
 -- the number that a sent order draws, or 0: taken
 abbrev pub sent : UistBroker → Order → ℕ
-sent b o = sendOf b o .event .number
+sent b o = sendOf b o .event .fault
 
 -- the number that a cash mover draws, or 0, and cash afterwards
 abbrev pub moved : CashMoved → ℕ × Float
-moved x = (cashNumber (x .event), cashOf (x .broker))
+moved x = (cashFault (x .event), cashOf (x .broker))
 
 -- the number, and the orders that wait afterwards
 abbrev pub sold : CashMoved → ℕ × List Order
-sold x = (cashNumber (x .event), waitingOf (x .broker .exchange))
+sold x = (cashFault (x .event), waitingOf (x .broker .exchange))
 
 -- the tick after the one that books the waiting orders: how many traded, and the book
 abbrev pub secondTick : UistV1 → Table → ℕ × List Booked
@@ -123,10 +123,10 @@ secondTick e t =
     (x .count, restingOf (x .exchange))
 
 abbrev pub booked : ℕ → Order → Booked
-booked n o = record { number = n; order = o }
+booked n o = bookedAs n o
 
 -- the orders of the walk over weights
-abbrev pub planned : UistBroker → List Weight → Option (List Order)
+abbrev pub planned : UistBroker → List Weight → Plan
 planned b w = planOf (moneyOf (b .portfolio)) w
 
 -- ---- the table: no costs, cash 0, nothing held and market orders unless named; `other` stands for every price that 01 does not name
@@ -154,13 +154,13 @@ table other =
     (restingOf (tickOf (waiting (buy 1 1 ∷ sell 2 1 ∷ sell 3 1 ∷ [])) (quoted []) .exchange))
     (booked 0 (sell 2 1) ∷ booked 1 (sell 3 1) ∷ booked 2 (buy 1 1) ∷ []) ∷
     -- cash 1,000, weight 0.5, ask 30: buy 16
-    example 10 (planned (broker noCosts (quote 1 other (num 30) ∷ []) 1000) (weight 1 (halves 1) ∷ [])) (some (buy 1 16 ∷ [])) ∷
+    example 10 (planned (broker noCosts (quote 1 other (num 30) ∷ []) 1000) (weight 1 (halves 1) ∷ [])) (planAs 0 (buy 1 16 ∷ [])) ∷
     -- cash 10, weight 0.5, ask 100, flat 10: sale of 1
-    example 11 (planned (broker (withCost noCosts (Flat (num 10))) (quote 1 other (num 100) ∷ []) 10) (weight 1 (halves 1) ∷ [])) (some (sell 1 1 ∷ [])) ∷
+    example 11 (planned (broker (withCost noCosts (Flat (num 10))) (quote 1 other (num 100) ∷ []) 10) (weight 1 (halves 1) ∷ [])) (planAs 0 (sell 1 1 ∷ [])) ∷
     -- cash 1,000, weight 0 of an unheld symbol first: no order for later symbols
     example 12
     (planned (broker noCosts (quote 1 other other ∷ quote 2 other (num 30) ∷ []) 1000) (weight 1 (num 0) ∷ weight 2 (halves 1) ∷ []))
-    (some []) ∷
+    (planAs 0 []) ∷
     -- buy 10 for 100, sell 10 for 120: no basis; buy 5 for 60: 12
     example 13 (costBasis (take 2 trades) 1 ∷ costBasis trades 1 ∷ []) (none ∷ some (num 12) ∷ []) ∷
     -- hold 10 at bid 12.5, liquidate 26: sell 2

@@ -1,14 +1,14 @@
 -- The plain ledger: document 01, section 6. It is fed the builder's arguments and the calls, and keeps nothing of the program's. Definitions only.
-use Prim.Native.Nat.{ℕ, _+_}
+use Prim.Native.Nat.{ℕ}
 use mathlib.Core.Bool.{Bool, true, false, not, cond}
 use mathlib.Core.List.{List, [], _∷_, _++_, foldl}
 use mathlib.Core.Option.{Option, none, some}
-use lib.Dec.{eqb, ltb}
+use lib.Dec.{ltb}
 use lib.Ieee.{Float}
 use lib.Ieee.Scale.{finite}
 use lib.ListN.{length}
 use Rattle.lists.specs.Lists.{over, given}
-use Rattle.market.specs.Numbers.{Test, _draws_, drawn, unlessDrawn}
+use Rattle.market.specs.Faults.{Test, _draws_, drawn, unlessDrawn}
 use Rattle.market.specs.Orders.{zero64, eventOf, orderTests}
 use Rattle.market.specs.Quotes.{tableTests}
 use Rattle.market.specs.Weights.{weightRows}
@@ -16,15 +16,15 @@ use Rattle.market.specs.declared.order.Order.{Order}
 use Rattle.market.specs.declared.quote.Quote.{Quote}
 use Rattle.market.specs.declared.weight.Weight.{Weight}
 use Rattle.costs.specs.declared.BrokerCost.{BrokerCost}
-use Rattle.orders.specs.Orders.{plain, Orders, noOrders, restingIn, takeOn, erase, fillsOf, tick}
+use Rattle.orders.specs.Orders.{plain, Orders, noOrders, bookWidth, roomFor, takeOn, erase, fillsOf, tick}
 use Rattle.rules.specs.Amounts.{plus, minus, negated, below}
 use Rattle.rules.specs.Money.{Money, withCash, fetchOne, fetched, settled, expected, failedIf}
 use Rattle.rules.specs.Values.{totalValue}
 use Rattle.rules.specs.Sends.{sendTests}
 use Rattle.rules.specs.Liquidation.{salesFor, debitedBy, buffer}
-use Rattle.rules.specs.Weights.{planOf}
+use Rattle.rules.specs.Weights.{Plan, planOf}
 use Rattle.market.specs.declared.order.OrderEvent.{OrderEvent}
-use Rattle.ledger.specs.Calls.{Call, deposit, withdraw, liquidate, send, sendList, insert, delete, check, update, Answer, number, deposited, withdrawn, refused, event, events, traded, updated}
+use Rattle.ledger.specs.Calls.{Call, deposit, withdraw, liquidate, send, sendList, insert, delete, check, update, Answer, fault, deposited, withdrawn, refused, event, events, traded, updated}
 
 -- costs, latest quotes, cash, holdings, pending and Failed; the log length; its trades, and each order taken as waiting, resting, traded or deleted
 pub record Ledger : Type 0 where
@@ -49,18 +49,16 @@ withOrders L b = record { room = L .room; money = L .money; orders = b }
 
 -- ---- orders: taken, by these fields
 
--- 10 orders taken = log length, 11 resting + waiting = 1,024
+-- 10 and 11, by the orders and the log's length
 abbrev pub roomTests : Ledger → List Test
-roomTests L =
-    (eqb (length (L .orders .booked) + length (L .orders .waiting)) (L .room) draws 10) ∷
-    (eqb (restingIn (L .orders .booked) + length (L .orders .waiting)) 1024 draws 11) ∷ []
+roomTests L = roomFor (L .room) bookWidth (L .orders)
 
 -- send: an order that draws no number is taken; it waits, and pending moves
 unfoldable pub sendEvent : Ledger → Order → OrderEvent
 sendEvent L o = eventOf o (drawn (sendTests (L .money) (roomTests L) o))
 
 unfoldable pub sending : Ledger → Order → Ledger
-sending L o = unlessDrawn (sendEvent L o .number) (record { room = L .room; money = expected o (L .money); orders = takeOn (plain o) (L .orders) }) L
+sending L o = unlessDrawn (sendEvent L o .fault) (record { room = L .room; money = expected o (L .money); orders = takeOn (plain o) (L .orders) }) L
 
 abbrev pub sendingAll : Ledger → List Order → Ledger
 sendingAll L l = foldl sending L l
@@ -74,7 +72,7 @@ unfoldable pub insertEvent : Ledger → Order → OrderEvent
 insertEvent L o = eventOf o (drawn (orderTests o ++ roomTests L))
 
 unfoldable pub inserting : Ledger → Order → Ledger
-inserting L o = unlessDrawn (insertEvent L o .number) (withOrders L (takeOn (plain o) (L .orders))) L
+inserting L o = unlessDrawn (insertEvent L o .fault) (withOrders L (takeOn (plain o) (L .orders))) L
 
 -- ---- liquidation as in section 4, each of its orders going through the send above
 
@@ -138,7 +136,7 @@ callTests L (update t f w e) = updateTests t f w (length e)
 -- ---- what a call does where those draw none
 
 abbrev pub afterWeights : Ledger → List Weight → Ledger
-afterWeights L w = given (planOf (L .money) w) L (sendingAll L)
+afterWeights L w = sendingAll L (planOf (L .money) w .orders)
 
 unfoldable pub acting : Ledger → Call → Ledger
 acting L (deposit a) = withMoney L (withCash (L .money) (plus a (L .money .cash)))
@@ -157,10 +155,9 @@ step L c = unlessDrawn (drawn (callTests L c)) (acting L c) L
 
 -- ---- what a call answers, n being the number that it drew before acting
 
--- 13 where there is no value to weigh: the check stands, and no event is written
-abbrev pub weighAnswer : Ledger → Option (List Order) → List OrderEvent → Answer
-weighAnswer L none e = updated 13 zero64 0 e
-weighAnswer L (some l) e = updated 0 (totalValue (L .money)) (length l) (over (sendEvents L l) e)
+-- a plan that draws a number lists no order: the check stands, the total is 0.0, and no event is written
+abbrev pub weighAnswer : Ledger → Plan → List OrderEvent → Answer
+weighAnswer L p e = updated (p .fault) (unlessDrawn (p .fault) (totalValue (L .money)) zero64) (length (p .orders)) (over (sendEvents L (p .orders)) e)
 
 -- a cash mover: its success with the amount, or its number with the amount
 abbrev pub movedAs : (Float → Answer) → ℕ → Float → Answer
@@ -173,7 +170,7 @@ answerAs n L (liquidate a) = movedAs withdrawn (unlessDrawn n (cond (succeeds L 
 answerAs n L (send o) = event (sendEvent L o)
 answerAs n L (sendList l e) = events n (unlessDrawn n (over (sendEvents L l) e) e)
 answerAs n L (insert o) = event (insertEvent L o)
-answerAs n L (delete m) = number n
+answerAs n L (delete m) = fault n
 answerAs n L (check t f) = traded n (unlessDrawn n (length (fillsOf t (L .orders .booked))) 0)
 answerAs n L (update t f w e) = unlessDrawn n (weighAnswer (checking L t f) (planOf (checking L t f .money) w) e) (updated n zero64 0 e)
 

@@ -3,15 +3,15 @@ use mathlib.Core.List.{List, [], _∷_}
 use Rattle.market.specs.declared.quote.Quote.{Quote}
 use Rattle.market.specs.declared.trade.Trade.{Trade}
 use Rattle.costs.specs.declared.TradeCosts.{TradeCosts}
-use Rattle.account.specs.Account.{cashNumber, cashAmount}
+use Rattle.account.specs.Account.{cashFault, cashAmount}
 use Rattle.account.specs.declared.BrokerCashEvent.{BrokerCashEvent}
 use Rattle.account.specs.declared.BrokerCashEvent.the-variants.{WithdrawSuccess, WithdrawFailure, DepositSuccess, OperationFailure, NotFinite, Broken}
 use Rattle.broker.specs.Send as Send
 use Rattle.broker.specs.Cash.{depositOf, withdrawOf}
 use Rattle.broker.specs.Liquidate.{liquidateOf}
-use Rattle.broker.specs.Lent.{buildFor, sendListNumber, sendListBroker, sendListEvents, checkFor, checkBroker, checkTraded, checkLog, updateNumberOf, updateBroker, updateTotal, updateSent, updateEvents, updateLog}
+use Rattle.broker.specs.Lent.{buildFor, sendListFault, sendListBroker, sendListEvents, checkFor, checkBroker, checkTraded, checkLog, updateFaultOf, updateBroker, updateTotal, updateSent, updateEvents, updateLog}
 use Rattle.broker.specs.declared.state.UistBroker.{UistBroker}
-use Rattle.ledger.specs.Calls.{Call, deposit, withdraw, liquidate, send, sendList, insert, delete, check, update, Answer, number, deposited, withdrawn, refused, event, events, traded, updated}
+use Rattle.ledger.specs.Calls.{Call, deposit, withdraw, liquidate, send, sendList, insert, delete, check, update, Answer, fault, deposited, withdrawn, refused, event, events, traded, updated}
 
 pub record Held : Type 0 where
   pub broker : UistBroker
@@ -36,7 +36,7 @@ step s (check t f) = record { broker = checkBroker (s .broker) t f (s .log); log
 step s (update t f w e) = record { broker = updateBroker (s .broker) t f w e (s .log); log = updateLog (s .broker) t f w e (s .log) }
 
 abbrev pub refusedBy : BrokerCashEvent → Answer
-refusedBy e = refused (cashNumber e) (cashAmount e)
+refusedBy e = refused (cashFault e) (cashAmount e)
 
 -- what an event says: each success by itself; of the others the number and the amount
 abbrev pub cashAnswer : BrokerCashEvent → Answer
@@ -52,12 +52,12 @@ answer s (deposit a) = cashAnswer (depositOf (s .broker) a .event)
 answer s (withdraw a) = cashAnswer (withdrawOf (s .broker) a .event)
 answer s (liquidate a) = cashAnswer (liquidateOf (s .broker) a .event)
 answer s (send o) = event (Send.sendOf (s .broker) o .event)
-answer s (sendList l e) = events (sendListNumber (s .broker) l e) (sendListEvents (s .broker) l e)
+answer s (sendList l e) = events (sendListFault (s .broker) l e) (sendListEvents (s .broker) l e)
 answer s (insert o) = event (Send.insertOf (s .broker) o .event)
-answer s (delete n) = number (Send.deleteOf (s .broker) n .number)
+answer s (delete n) = fault (Send.deleteOf (s .broker) n .fault)
 answer s (check t f) = traded (checkFor (s .broker) t f (s .log)) (checkTraded (s .broker) t f (s .log))
 answer s (update t f w e) =
-    updated (updateNumberOf (s .broker) t f w e (s .log)) (updateTotal (s .broker) t f w e (s .log)) (updateSent (s .broker) t f w e (s .log)) (updateEvents (s .broker) t f w e (s .log))
+    updated (updateFaultOf (s .broker) t f w e (s .log)) (updateTotal (s .broker) t f w e (s .log)) (updateSent (s .broker) t f w e (s .log)) (updateEvents (s .broker) t f w e (s .log))
 
 unfoldable pub run : Held → List Call → Held
 run s [] = s

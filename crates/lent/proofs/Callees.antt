@@ -2,7 +2,7 @@
 use mathlib.Core.Path.{_≡_}
 use prog.Routine.{Env}
 use borrow.Fn.World.{World}
-use Rattle.walks.proofs.Walk.{Callee, Knows, under}
+use Rattle.slices.proofs.Derivation.{Callee, Knows, under}
 use Rattle.lent.proofs.tables.rows_read.Kinds as rows-read-Kinds
 use Rattle.lent.proofs.tables.rows_read.Reads as rows-read-Reads
 use Rattle.lent.proofs.tables.rows_read.Symbol as rows-read-Symbol

@@ -1,40 +1,32 @@
 -- A check by value on tables read off lent rows is the one that the crate broker's specs/Lent.antt states, and its trades fit the log. Assumes nothing.
 use Prim.Native.Nat.{ℕ, zero, suc, _+_, _≤_}
-use mathlib.Core.Bool.{Bool, true, false, not, _||_, cond}
 use mathlib.Core.Path.{_≡_, refl, sym, _∙_, ap, subst}
-use mathlib.Core.List.{List, _∷_, _++_}
+use mathlib.Core.List.{List, [], _∷_, _++_}
 use native.Mathlib.Omega.{arith}
-use lib.Dec.{eqb}
 use lib.ListN.{length}
 use lib.Seq.{paste, paste-zero}
 use Rattle.lists.specs.Lists.{over, stored}
 use Rattle.lists.proofs.Over.{paste-over}
-use Rattle.market.specs.Numbers.{Test, _draws_, drawn, unlessDrawn}
+use Rattle.market.specs.Faults.{Test, drawn, unlessDrawn, firstDrawn}
 use Rattle.market.specs.Quotes.{tableTests, tableOf, rowAt}
 use Rattle.market.specs.declared.quote.Quote.{Quote}
 use Rattle.market.specs.declared.table.Table.{Table}
 use Rattle.market.specs.declared.trade.Trade.{Trade}
-use Rattle.market.proofs.Numbers.{drawn-append, table-numbered}
-use Rattle.market.proofs.Tables.{table-fault}
-use Rattle.exchange.specs.State.{brokenOf}
+use Rattle.market.proofs.Faults.{drawn-append}
+use Rattle.market.proofs.Tables.{table-numbered, table-fault}
 use Rattle.exchange.specs.Tick.{noTrades}
 use Rattle.exchange.proofs.Executing.{few-executed}
-use Rattle.broker.specs.State.{moneyOf}
-use Rattle.broker.specs.Liquidate.{heldCount}
-use Rattle.broker.specs.Check.{checkNumber, bookedBy, checkedBy, Checks}
-use Rattle.broker.specs.Lent.{logTest, tradesIn, logWith, checkFor, checkBroker, checkTraded, checkLog, heldAfter}
+use Rattle.portfolio.specs.State.{moneyOf}
+use Rattle.portfolio.specs.Liquidate.{heldCount}
+use Rattle.broker.specs.Check.{checkFault, bookedBy, checkedBy, Checks}
+use Rattle.broker.specs.Lender.{logTest, brokerLogFault}
+use Rattle.broker.specs.Lent.{tradesIn, logWith, checkFor, checkBroker, checkTraded, checkLog, heldAfter}
 use Rattle.broker.specs.declared.state.UistBroker.{UistBroker}
 use Rattle.broker.specs.declared.check.Checked.{Checked}
 use Rattle.broker.proofs.Settling.{tick-trades}
 use Rattle.lent.specs.Answers.{AnswersCheck}
 use Rattle.lent.specs.declared.uist.CheckAnswer.{CheckAnswer}
 use Rattle.lent.proofs.Faults.{whole}
-
--- a test in front of others
-pub draws-or : (x : Bool) (n : ℕ) (l : List Test) → cond x n (drawn l) ≡ drawn ((x draws n) ∷ l)
-unfolding drawn
-draws-or true n l = refl
-draws-or false n l = refl
 
 -- ---- rows that stand first in an array, stored in a list at a place; none where a number n is drawn
 
@@ -59,16 +51,15 @@ trades-fit b t log l e =
 -- ---- the check
 
 abbrev pub answerIn : Checked → CheckAnswer
-answerIn x = record { broker = x .broker; traded = x .count; queued = x .queued; number = x .number }
+answerIn x = record { broker = x .broker; traded = x .count; queued = x .queued; fault = x .fault }
 
 module _ (b : UistBroker) (t f : List Quote) (log : List Trade) where
-  check-number : checkNumber (b .exchange .counts) (length log) (tableOf t .fault) (tableOf f .fault) ≡ checkFor b t f log
-  unfolding checkNumber checkFor
+  check-number : checkFault b (length log) (tableOf t .fault) (tableOf f .fault) ≡ checkFor b t f log
+  unfolding checkFault checkFor
   check-number =
-      let x = not (eqb (length log) (b .exchange .counts .room)) || brokenOf (b .exchange .counts) in
       rw (table-fault t, table-fault f)
-      (ap (λ (k : ℕ). cond x 16 k) (sym (drawn-append (tableTests 0 t) (tableTests 0 f) (table-numbered 0 t)))
-      ∙ draws-or x 16 (tableTests 0 t ++ tableTests 0 f))
+      (ap (firstDrawn (brokerLogFault b (length log))) (sym (drawn-append (tableTests 0 t) (tableTests 0 f) (table-numbered 0 t)))
+      ∙ sym (drawn-append (logTest b log ∷ []) (tableTests 0 t ++ tableTests 0 f) (tt, tt)))
 
   fit-where : (n : ℕ) → n ≡ checkFor b t f log → n ≡ 0 → (length (tradesIn b t) ≤ 1024) × (b .exchange .counts .logged + length (tradesIn b t) ≤ length log)
   unfolding checkFor
@@ -78,13 +69,13 @@ module _ (b : UistBroker) (t f : List Quote) (log : List Trade) where
     checks : Checks b (tableOf t) (tableOf f) (length log) x
     checks = rw (ru, rv) at done
 
-    number-is : x .number ≡ checkFor b t f log
-    number-is = checks .number ∙ check-number
+    number-is : x .fault ≡ checkFor b t f log
+    number-is = checks .fault ∙ check-number
 
     module _ (trades : List Trade) (n first : ℕ) (is-trades : trades ≡ x .trades) (is-n : n ≡ x .count) (is-first : first ≡ x .first) where
       pub check-fits : (n ≤ 1024) × (first + n ≤ length log)
       check-fits =
-          fits-by log noTrades (tradesIn b t) trades (b .exchange .counts .logged) first n (x .number) 1024 (fit-where (x .number) number-is)
+          fits-by log noTrades (tradesIn b t) trades (b .exchange .counts .logged) first n (x .fault) 1024 (fit-where (x .fault) number-is)
           (is-n ∙ checks .count) (is-first ∙ checks .first)
 
       pub check-answers : (r : CheckAnswer) (after : List Trade) → r ≡ answerIn x → after ≡ paste log first trades n → AnswersCheck b t f log r after
@@ -95,9 +86,9 @@ module _ (b : UistBroker) (t f : List Quote) (log : List Trade) where
             broker = checks .broker ∙ ap (λ (k : ℕ). unlessDrawn k (checkedBy b (tableOf t) (tableOf f)) b) number-is;
             traded = checks .count ∙ ap (λ (k : ℕ). unlessDrawn k (length (tradesIn b t)) 0) number-is;
             queued = subst (λ (k : ℕ). x .queued ≤ unlessDrawn k (heldCount (moneyOf (bookedBy b (tableOf t) (tableOf f) .portfolio))) 0) number-is (checks .queued);
-            number = number-is;
+            fault = number-is;
             log-is = is-after
-                ∙ stored-by log noTrades (tradesIn b t) trades (b .exchange .counts .logged) first n (x .number)
-                (λ z. is-trades ∙ checks .trades ∙ tick-trades (b .exchange) (tableOf t) (length log) (tableOf f .fault) (sym (checks .number) ∙ z)) (is-n ∙ checks .count) (is-first ∙ checks .first)
+                ∙ stored-by log noTrades (tradesIn b t) trades (b .exchange .counts .logged) first n (x .fault)
+                (λ z. is-trades ∙ checks .trades ∙ tick-trades b (tableOf t) (length log) (tableOf f .fault) (sym (checks .fault) ∙ z)) (is-n ∙ checks .count) (is-first ∙ checks .first)
                 ∙ ap (λ (k : ℕ). unlessDrawn k (logWith b t log) log) number-is;
           })

@@ -1,8 +1,9 @@
 -- The contracts of the functions that are proved by hand and called by another, as the borrow logic takes them. Assumes nothing.
 use Rattle.market.specs.Quotes.{tableOf}
 use Rattle.rules.specs.Basis.{turnover}
-use Rattle.walks.proofs.Walk.{Contract, true, false, _≡_, _≤_, [], _∷_, length, take, R, rV, pShrS, pNum, rFloat, binary64, w32, w64}
-use Rattle.lent.specs.Logs.{basisIn, basisOver}
+use Rattle.slices.proofs.Derivation.{Contract, true, false, _≡_, _≤_, [], _∷_, length, take, R, rV, pShrS, pNum, rFloat, binary64, w32, w64}
+use Rattle.portfolio.specs.Basis.{basisIn}
+use Rattle.lent.specs.Logs.{basisOver}
 use Rattle.lent.specs.Walks.{ReadsWeights}
 use Rattle.lent.proofs.Rows.{quote, table, trade}
 use Rattle.lent.proofs.UistRows.{basis, weight, weights}

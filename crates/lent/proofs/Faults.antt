@@ -6,26 +6,17 @@ use mathlib.Core.List.{List, _∷_, _++_}
 use native.Mathlib.Omega.{arith}
 use lib.Dec.{eqb}
 use lib.ListN.{length}
-use borrow.Author.Tests.{eq-eqb, ne-eqb, eqb-true}
+use borrow.Author.Tests.{eqb-true}
 use Rattle.lists.specs.Lists.{All}
-use Rattle.market.specs.Numbers.{Test, drawn, unlessDrawn}
+use Rattle.market.specs.Faults.{Test, drawn, unlessDrawn}
 use Rattle.market.specs.declared.trade.Trade.{Trade}
-use Rattle.market.proofs.Numbers.{Numbered, drawn-append, none-drawn}
+use Rattle.market.proofs.Faults.{Numbered, drawn-append, none-drawn}
 use Rattle.exchange.specs.State.{brokenOf}
 use Rattle.exchange.proofs.Counting.{Sound, sound-facts}
-use Rattle.broker.specs.Lent.{logTest}
+use Rattle.broker.specs.Lender.{lengthTest, logTest}
 use Rattle.broker.specs.declared.state.UistBroker.{UistBroker}
-use Rattle.lent.specs.Logs.{lengthTest}
 
 -- ---- an answer by the number n
-
-pub unless-some : {A : Type 0} (n : ℕ) (x y : A) → (n ≡ 0 → ⊥) → y ≡ unlessDrawn n x y
-unless-some zero x y d = absurd (d refl)
-unless-some (suc n) x y d = refl
-
-pub unless-none : {A : Type 0} (n : ℕ) (x y : A) → n ≡ 0 → x ≡ unlessDrawn n x y
-unless-none zero x y z = refl
-unless-none (suc n) x y z = absurd (omega arith)
 
 -- only where no number is drawn does it matter what is answered then
 pub unless-same : {A : Type 0} (n : ℕ) (x y z : A) → (n ≡ 0 → x ≡ y) → unlessDrawn n x z ≡ unlessDrawn n y z
@@ -37,19 +28,6 @@ pub past-first : (a b : List Test) → All Numbered a → (n : ℕ) → n ≡ dr
 past-first a b p n e = ap (λ (k : ℕ). unlessDrawn k (drawn b) k) e ∙ sym (drawn-append a b p)
 
 -- ---- 16 for a log of the length n
-
-module _ (b : UistBroker) (n : ℕ) (l : List Test) where
-  pub other-length : (n ≡ b .exchange .counts .room → ⊥) → 16 ≡ drawn (lengthTest b n ∷ l)
-  unfolding drawn
-  other-length d = rw (ne-eqb n (b .exchange .counts .room) d)
-
-  pub broken-counts : n ≡ b .exchange .counts .room → brokenOf (b .exchange .counts) ≡ true → 16 ≡ drawn (lengthTest b n ∷ l)
-  unfolding drawn
-  broken-counts h e = rw (eq-eqb n (b .exchange .counts .room) h, e)
-
-  pub sound-length : n ≡ b .exchange .counts .room → brokenOf (b .exchange .counts) ≡ false → drawn l ≡ drawn (lengthTest b n ∷ l)
-  unfolding drawn
-  sound-length h e = rw (eq-eqb n (b .exchange .counts .room) h, e)
 
 or-false : (x y : Bool) → (not x || y) ≡ false → (x ≡ true) × (y ≡ false)
 or-false true y h = (refl, h)

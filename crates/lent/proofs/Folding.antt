@@ -7,20 +7,17 @@ use native.Mathlib.Numerals.{add-one}
 use lib.Ieee.{Float}
 use lib.ListN.{length, take, getD}
 use lib.Seq.{take-suc}
-use borrow.Author.Tests.{eq-eqb}
-use Rattle.market.specs.Numbers.{unlessDrawn}
+use Rattle.market.specs.Faults.{unlessDrawn}
 use Rattle.market.specs.Orders.{zero64}
 use Rattle.market.specs.declared.trade.Trade.{Trade}
-use Rattle.market.specs.declared.trade.TradeType.{TradeType}
 use Rattle.rules.specs.Amounts.{plus}
 use Rattle.rules.specs.Basis as Rules
-use Rattle.rules.specs.Basis.{cleared, basisStep, basisOf, costBasis, addTurnover, turnover}
-use Rattle.rules.specs.Money.{adding}
+use Rattle.rules.specs.Basis.{basisOf, costBasis, addTurnover, turnover}
 use Rattle.broker.specs.Read.{ReadsAmount, readFloat}
 use Rattle.broker.specs.declared.state.UistBroker.{UistBroker}
 use Rattle.broker.specs.declared.read.AmountRead.{AmountRead}
 use Rattle.broker.specs.declared.read.FloatRead.{FloatRead}
-use Rattle.lent.specs.Logs.{loggedIn, turnoverNumber, basisNumber, basisOver}
+use Rattle.lent.specs.Logs.{loggedIn, turnoverFault, basisFault, basisOver}
 use Rattle.lent.proofs.Faults.{unless-same}
 
 -- ---- steps
@@ -28,11 +25,6 @@ use Rattle.lent.proofs.Faults.{unless-same}
 module _ {A : Type 0} (f : A → Trade → A) (a : A) where
   pub fold-more : (l : List Trade) (i : ℕ) (d : Trade) → i < length l → f (foldl f a (take i l)) (getD l i d) ≡ foldl f a (take (i + 1) l)
   fold-more l i d h = rw (add-one, take-suc l i d, foldl-append)
-
--- a trade of the symbol, by its side
-pub step-by : (s : ℕ) (b : Rules.Basis) (t : Trade) (k : TradeType) (r : Rules.Basis) → t .symbol ≡ s → t .typ ≡ k → r ≡ cleared (adding k (b .quantity) (t .quantity)) (adding k (b .value) (t .value)) → r ≡ basisStep s b t
-unfolding basisStep
-step-by s b t k r h e m = m ∙ rw (eq-eqb (t .symbol) s h, e)
 
 pub turnover-more : (l : List Trade) (i : ℕ) (d : Trade) (x v : Float) → i < length l → x ≡ turnover (take i l) → v ≡ getD l i d .value → plus x v ≡ turnover (take (i + 1) l)
 unfolding turnover
@@ -49,18 +41,18 @@ module _ (b : UistBroker) (log : List Trade) (m n : ℕ) (rows : n ≡ unlessDra
   logged-rows : m ≡ 0 → take n log ≡ loggedIn b log
   logged-rows z = ap (λ (k : ℕ). take k log) (rows ∙ ap (λ (k : ℕ). unlessDrawn k (b .exchange .counts .logged) 0) z)
 
-  pub reads-basis : (s : ℕ) (x : Rules.Basis) (r : AmountRead) → m ≡ basisNumber b log s → x ≡ basisOver s (take n log) → ReadsAmount (basisOf x) m r → ReadsAmount (costBasis (loggedIn b log) s) (basisNumber b log s) r
+  pub reads-basis : (s : ℕ) (x : Rules.Basis) (r : AmountRead) → m ≡ basisFault b log s → x ≡ basisOver s (take n log) → ReadsAmount (basisOf x) m r → ReadsAmount (costBasis (loggedIn b log) s) (basisFault b log s) r
   unfolding costBasis
   reads-basis s x r e f a =
       subst (λ (k : ℕ). ReadsAmount (costBasis (loggedIn b log) s) k r) e
       (record {
         amount = a .amount ∙ unless-same m (basisOf x) (costBasis (loggedIn b log) s) none (λ z. ap basisOf (f ∙ ap (basisOver s) (logged-rows z)));
-        number = a .number;
+        fault = a .fault;
       })
 
-  pub reads-turnover : (v : Float) (r : FloatRead) → m ≡ turnoverNumber b log → v ≡ turnover (take n log) → r ≡ readFloat v m → r ≡ readFloat (turnover (loggedIn b log)) (turnoverNumber b log)
+  pub reads-turnover : (v : Float) (r : FloatRead) → m ≡ turnoverFault b log → v ≡ turnover (take n log) → r ≡ readFloat v m → r ≡ readFloat (turnover (loggedIn b log)) (turnoverFault b log)
   unfolding readFloat
   reads-turnover v r e f a =
       a
-      ∙ ap (λ (y : Float). record { value = y; number = m }) (unless-same m v (turnover (loggedIn b log)) zero64 (λ z. f ∙ ap turnover (logged-rows z)))
+      ∙ ap (λ (y : Float). record { value = y; fault = m }) (unless-same m v (turnover (loggedIn b log)) zero64 (λ z. f ∙ ap turnover (logged-rows z)))
       ∙ ap (λ (k : ℕ). readFloat (turnover (loggedIn b log)) k) e

@@ -11,27 +11,26 @@ use lib.ListN.{length, take, drop, length-append, length-take}
 use lib.Seq.{paste, paste-zero, take-all}
 use borrow.Author.Tests.{ltb-false}
 use Rattle.lists.specs.Lists.{over, given}
-use Rattle.market.specs.Numbers.{Test, drawn, unlessDrawn}
-use Rattle.market.specs.Weights.{weightRows}
+use Rattle.market.specs.Faults.{Test, drawn, unlessDrawn}
+use Rattle.market.specs.Weights.{weightRows, weightsOf, weighed}
 use Rattle.market.specs.Orders.{isSell}
 use Rattle.market.specs.declared.order.Order.{Order}
 use Rattle.market.specs.declared.quote.Quote.{Quote}
 use Rattle.market.specs.declared.weight.Weight.{Weight}
-use Rattle.market.proofs.Numbers.{none-drawn}
-use Rattle.exchange.specs.State.{brokenOf}
+use Rattle.market.proofs.Faults.{none-drawn, first-none}
 use Rattle.orders.specs.Orders.{ofSide, sellsFirst}
 use Rattle.rules.specs.Amounts.{isZero}
 use Rattle.rules.specs.Money.{Money}
 use Rattle.rules.specs.Values.{liquidationValue}
-use Rattle.rules.specs.Weights.{orderFor, sharesFor, difference, wanted, planOf}
-use Rattle.broker.specs.State.{moneyOf}
-use Rattle.broker.specs.Weigh.{weightsOf, weighed}
-use Rattle.broker.specs.Walk.{lenderTests, walkFault, planBy, Walks}
+use Rattle.rules.specs.Weights.{orderFor, sharesFor, difference, wanted, planOf, Plan, planTests}
+use Rattle.portfolio.specs.State.{moneyOf}
+use Rattle.broker.specs.Lender.{broken, lenderTests}
+use Rattle.broker.specs.Walk.{walkFault, planBy, Walks}
 use Rattle.broker.specs.declared.state.UistBroker.{UistBroker}
-use Rattle.broker.specs.declared.weigh.Weights.{Weights}
+use Rattle.market.specs.declared.weight.Weights.{Weights}
 use Rattle.broker.specs.declared.walk.Walked.{Walked}
-use Rattle.broker.proofs.Weighing.{weights-fault, weights-all, weights-most}
-use Rattle.lent.specs.Walks.{walkFor, planFor, walkNumber, walkCount, walkOrders, ReadsWeights}
+use Rattle.market.proofs.Weights.{weights-fault, weights-all, weights-most}
+use Rattle.lent.specs.Walks.{walkFor, planFor, walkFault as answerFault, walkCount, walkOrders, ReadsWeights}
 use Rattle.lent.specs.Answers.{AnswersWalk}
 use Rattle.lent.specs.declared.uist.WalkAnswer.{WalkAnswer}
 use Rattle.lent.proofs.Reading.{read-rows}
@@ -98,44 +97,29 @@ wanted-few m v [] = omega arith
 wanted-few m v (w ∷ l) =
     row-few m (difference m v w) (w .symbol) (m .latest (w .symbol)) (isZero (difference m v w)) (wanted m v l) (length l) (wanted-few m v l)
 
-plan-by : (z : Bool) (l : List Order) (n : ℕ) → length l ≤ n → (k : List Order) → cond z none (some (sellsFirst l)) ≡ some k → length k ≤ n
-plan-by true l n h k e = absurd (let z : _≡_ {A = ℕ} 0 1 = cc in omega arith)
-plan-by false l n h k e =
-    let f : sellsFirst l ≡ k = cc in
-    omega (arith, ap length f, length-append (ofSide true l) (ofSide false l), sides-few l)
+plan-by : (n : ℕ) (l : List Order) (k : ℕ) → length l ≤ k → length (unlessDrawn n (sellsFirst l) []) ≤ k
+plan-by zero l k h = omega (arith, length-append (ofSide true l) (ofSide false l), sides-few l)
+plan-by (suc n) l k h = omega arith
 
-pub plan-few : (m : Money) (l : List Weight) (k : List Order) → planOf m l ≡ some k → length k ≤ length l
+-- a plan lists no more orders than there are rows
+pub planned-few : (m : Money) (l : List Weight) → length (planOf m l .orders) ≤ length l
 unfolding planOf
-plan-few m l k e =
-    plan-by (isZero (liquidationValue m)) (wanted m (liquidationValue m) l) (length l) (wanted-few m (liquidationValue m) l) k e
-
--- how many orders there are, where there may be none
-pub planned-few : (m : Money) (l : List Weight) → given (planOf m l) 0 length ≤ length l
-planned-few m l = by-plan (planOf m l) refl
-  where
-    by-plan : (p : Option (List Order)) → planOf m l ≡ p → given p 0 length ≤ length l
-    by-plan none e = omega arith
-    by-plan (some k) e = plan-few m l k e
+planned-few m l =
+    plan-by (drawn (planTests (liquidationValue m))) (wanted m (liquidationValue m) l) (length l) (wanted-few m (liquidationValue m) l)
 
 -- ---- the walk alone
 
 -- a plan's orders, stored from the first place on
-stored : (o rows : List Order) (k n : ℕ) (p : Option (List Order)) → n ≡ unlessDrawn k (given p 0 length) 0 → take n rows ≡ unlessDrawn k (given p [] (λ l. l)) [] →
-    paste o 0 rows n ≡ unlessDrawn k (given p o (λ l. over l o)) o
-stored o rows zero n none e t = ap (λ (j : ℕ). paste o 0 rows j) e ∙ paste-zero o 0 rows
-stored o rows zero n (some l) e t = ap (λ (m : List Order). m ++ drop (0 + n) o) t ∙ ap (λ (j : ℕ). l ++ drop j o) (zero-add n ∙ e)
-stored o rows (suc k) n p e t = ap (λ (j : ℕ). paste o 0 rows j) e ∙ paste-zero o 0 rows
-
-none-by : (k j : ℕ) → unlessDrawn k j k ≡ 0 → (k ≡ 0) × (j ≡ 0)
-none-by zero j e = (refl, e)
-none-by (suc k) j e = absurd (omega arith)
+stored : (o rows : List Order) (k n : ℕ) (l : List Order) → n ≡ unlessDrawn k (length l) 0 → take n rows ≡ unlessDrawn k l [] → paste o 0 rows n ≡ unlessDrawn k (over l o) o
+stored o rows zero n l e t = ap (λ (m : List Order). m ++ drop (0 + n) o) t ∙ ap (λ (j : ℕ). l ++ drop j o) (zero-add n ∙ e)
+stored o rows (suc k) n l e t = ap (λ (j : ℕ). paste o 0 rows j) e ∙ paste-zero o 0 rows
 
 module _ (b : UistBroker) (w : List Weight) (o : List Order) (r : Weights) (x : Walked) (is-read : ReadsWeights w r) (is-walk : Walks b r (length w) (length o) x) where
   abbrev tests : List Test
-  tests = lenderTests (b .exchange .counts) (length w) (length o)
+  tests = lenderTests b (length w) (length o)
 
   abbrev fault : ℕ
-  fault = walkFault (b .exchange .counts) (length w) (length o) (r .fault)
+  fault = walkFault b (length w) (length o) (r .fault)
 
   fault-for : fault ≡ walkFor b w o
   unfolding walkFault walkFor
@@ -145,23 +129,23 @@ module _ (b : UistBroker) (w : List Weight) (o : List Order) (r : Weights) (x : 
 
   none-lent : fault ≡ 0 → (drawn tests ≡ 0) × (r .fault ≡ 0)
   unfolding walkFault
-  none-lent z = none-by (drawn tests) (r .fault) z
+  none-lent z = first-none (drawn tests) (r .fault) z
 
   plan-is : fault ≡ 0 → planBy b r ≡ planFor b w
   plan-is z = ap (planOf (moneyOf (b .portfolio))) (is-read .rows (none-lent z .1))
 
   room-is : drawn tests ≡ 0 → length w ≤ length o
-  room-is z = ltb-false (length o) (length w) (none-drawn _ 14 _ (none-drawn (brokenOf (b .exchange .counts)) 15 _ z .1) .0)
+  room-is z = ltb-false (length o) (length w) (none-drawn _ 14 _ (none-drawn (broken b) 15 _ z .1) .0)
 
-  count-by : (k n : ℕ) → fault ≡ k → n ≡ unlessDrawn k (given (planBy b r) 0 length) 0 → (n ≤ 256) × (0 + n ≤ length o)
+  count-by : (k n : ℕ) → fault ≡ k → n ≡ unlessDrawn k (length (planBy b r .orders)) 0 → (n ≤ 256) × (0 + n ≤ length o)
   count-by zero n z e =
       let few = planned-few (moneyOf (b .portfolio)) w in
-      let same = ap (λ (p : Option (List Order)). given p 0 length) (plan-is z) in
+      let same = ap (λ (p : Plan). length (p .orders)) (plan-is z) in
       (omega (arith, e, few, same, weighed-few w r is-read (none-lent z .1)), omega (arith, e, few, same, room-is (none-lent z .0)))
   count-by (suc k) n z e = (omega (arith, e), omega (arith, e))
 
   -- the program's plan counts only where no number is drawn
-  same-by : {A : Type 0} (d : A) (g : Option (List Order) → A) → unlessDrawn fault (g (planBy b r)) d ≡ unlessDrawn (walkFor b w o) (g (planFor b w)) d
+  same-by : {A : Type 0} (d : A) (g : Plan → A) → unlessDrawn fault (g (planBy b r)) d ≡ unlessDrawn (walkFor b w o) (g (planFor b w)) d
   same-by d g =
       unless-same fault (g (planBy b r)) (g (planFor b w)) d (λ z. ap g (plan-is z))
       ∙ ap (λ (k : ℕ). unlessDrawn k (g (planFor b w)) d) fault-for
@@ -170,14 +154,14 @@ module _ (b : UistBroker) (w : List Weight) (o : List Order) (r : Weights) (x : 
     pub walk-fits : (n ≤ 256) × (0 + n ≤ length o)
     walk-fits = count-by fault n refl (is-n ∙ is-walk .count)
 
-    pub walk-answers : (a : WalkAnswer) (after : List Order) → a ≡ record { count = x .count; number = x .number } → after ≡ paste o 0 rows n → AnswersWalk b w o a after
-    unfolding walkNumber walkCount walkOrders
+    pub walk-answers : (a : WalkAnswer) (after : List Order) → a ≡ record { count = x .count; fault = x .fault } → after ≡ paste o 0 rows n → AnswersWalk b w o a after
+    unfolding answerFault walkCount walkOrders
     walk-answers a after is-a is-after =
         rw is-a
         (record {
-          count = is-walk .count ∙ same-by 0 (λ p. given p 0 length);
-          number = is-walk .number ∙ same-by fault (λ p. given p 13 (λ l. 0)) ∙ ap (λ (k : ℕ). unlessDrawn (walkFor b w o) (given (planFor b w) 13 (λ l. 0)) k) fault-for;
+          count = is-walk .count ∙ same-by 0 (λ p. length (p .orders));
+          fault = is-walk .fault ∙ same-by fault (λ p. p .fault) ∙ ap (λ (k : ℕ). unlessDrawn (walkFor b w o) (planFor b w .fault) k) fault-for;
           orders = is-after ∙ ap (λ (k : List Order). paste o 0 k n) is-rows
-              ∙ stored o (x .orders) fault n (planBy b r) (is-n ∙ is-walk .count) (ap (λ (j : ℕ). take j (x .orders)) is-n ∙ is-walk .orders)
-              ∙ same-by o (λ p. given p o (λ l. over l o));
+              ∙ stored o (x .orders) fault n (planBy b r .orders) (is-n ∙ is-walk .count) (ap (λ (j : ℕ). take j (x .orders)) is-n ∙ is-walk .orders)
+              ∙ same-by o (λ p. over (p .orders) o);
         })

@@ -2,8 +2,8 @@
 use Rattle.broker.specs.Lent.{buildFor}
 use Rattle.broker.specs.Read.{ReadsAmount, readFloat}
 use Rattle.rules.specs.Basis as Rules
-use Rattle.walks.proofs.Walk.{Contract, false, _≡_, [], _∷_, R, pV, rV, pShrS, pMutS, pNum, w32}
-use Rattle.lent.specs.Logs.{loggedIn, turnoverNumber, basisNumber}
+use Rattle.slices.proofs.Derivation.{Contract, false, _≡_, [], _∷_, R, pV, rV, pShrS, pMutS, pNum, w32}
+use Rattle.lent.specs.Logs.{loggedIn, turnoverFault, basisFault}
 use Rattle.lent.specs.Answers.{AnswersCheck, AnswersSend, AnswersWalk, AnswersUpdate}
 use Rattle.lent.proofs.Rows.{quote, trade}
 use Rattle.lent.proofs.UistRows as Rows
@@ -66,7 +66,7 @@ cost-basis = record {
   r = rV amount-read;
   requires = false;
   Pre = λ κs a. Unit {0};
-  Post = λ κs a z e. ReadsAmount (Rules.costBasis (loggedIn (a .0) (a .1 .0 .now)) (a .1 .1 .0)) (basisNumber (a .0) (a .1 .0 .now) (a .1 .1 .0)) z;
+  Post = λ κs a z e. ReadsAmount (Rules.costBasis (loggedIn (a .0) (a .1 .0 .now)) (a .1 .1 .0)) (basisFault (a .0) (a .1 .0 .now) (a .1 .1 .0)) z;
 }
 
 abbrev pub turnover : Contract
@@ -76,5 +76,5 @@ turnover = record {
   r = rV float-read;
   requires = false;
   Pre = λ κs a. Unit {0};
-  Post = λ κs a z e. z ≡ readFloat (Rules.turnover (loggedIn (a .0) (a .1 .0 .now))) (turnoverNumber (a .0) (a .1 .0 .now));
+  Post = λ κs a z e. z ≡ readFloat (Rules.turnover (loggedIn (a .0) (a .1 .0 .now))) (turnoverFault (a .0) (a .1 .0 .now));
 }

@@ -15,7 +15,7 @@ use Rattle.exchange.proofs.tick.Ticked as Ti
 use Rattle.exchange.proofs.tick.Ticked.Laws as Ti′
 use Rattle.exchange.proofs.tick.TickAnswer as A
 use Rattle.exchange.proofs.tick.TickAnswer.Laws as A′
-use Rattle.walks.proofs.Walk.{Kin, struct}
+use Rattle.slices.proofs.Derivation.{Kin, struct}
 
 abbrev pub quote : Kin
 quote = struct Q.the-type Q′.the-laws Q′.the-copy Q′.the-plain blankQuote tt

@@ -9,18 +9,17 @@ use lib.Seq.{take-suc, take-all}
 use borrow.Author.Tests.{ltb-false}
 use Rattle.lists.specs.Lists.{over}
 use Rattle.lists.proofs.Over.{over-more, length-over}
-use Rattle.market.specs.Numbers.{drawn, unlessDrawn}
+use Rattle.market.specs.Faults.{drawn, unlessDrawn}
 use Rattle.market.specs.declared.order.Order.{Order}
-use Rattle.market.proofs.Numbers.{none-drawn}
-use Rattle.exchange.specs.State.{brokenOf}
+use Rattle.market.proofs.Faults.{none-drawn}
 use Rattle.exchange.proofs.Counting.{Sound, sound-facts, sound-not-broken}
 use Rattle.broker.specs.Send.{eventFor, sentOne, sentAll, eventsOf, sendOf}
-use Rattle.broker.specs.Lent.{sendListNumber, sendListBroker, sendListEvents}
+use Rattle.broker.specs.Lent.{sendListFault, sendListBroker, sendListEvents}
 use Rattle.broker.specs.declared.state.UistBroker.{UistBroker}
 use Rattle.market.specs.declared.order.OrderEvent.{OrderEvent}
 use Rattle.broker.specs.declared.send.Sent.{Sent}
 use Rattle.broker.proofs.Sending.{sent-sound}
-use Rattle.broker.specs.Walk.{lenderTests}
+use Rattle.broker.specs.Lender.{broken, lenderTests}
 use Rattle.lent.specs.Answers.{AnswersSend}
 use Rattle.lent.specs.declared.uist.SendAnswer.{SendAnswer}
 
@@ -103,11 +102,11 @@ module _ (start : UistBroker) (l : List Order) (e : List OrderEvent) (n : ℕ) w
 
 -- ---- the call
 
-module _ (b : UistBroker) (l : List Order) (e : List OrderEvent) (m n : ℕ) (is-m : m ≡ drawn (lenderTests (b .exchange .counts) (length l) (length e))) (is-n : n ≡ unlessDrawn m (length l) 0) where
+module _ (b : UistBroker) (l : List Order) (e : List OrderEvent) (m n : ℕ) (is-m : m ≡ drawn (lenderTests b (length l) (length e))) (is-n : n ≡ unlessDrawn m (length l) 0) where
   -- where no number is drawn the counts hold together, and there is a place for each event
   lent : m ≡ 0 → Sound (b .exchange .counts) × (length l ≤ length e)
   lent z =
-      let p = none-drawn (brokenOf (b .exchange .counts)) 15 _ (sym is-m ∙ z) in
+      let p = none-drawn (broken b) 15 _ (sym is-m ∙ z) in
       (sound-facts (b .exchange .counts) (p .0), ltb-false (length e) (length l) (none-drawn _ 14 _ (p .1) .0))
 
   rows-by : (k : ℕ) → m ≡ k → n ≡ unlessDrawn k (length l) 0 → (n ≤ length l) × (n ≤ length e)
@@ -133,13 +132,13 @@ module _ (b : UistBroker) (l : List Order) (e : List OrderEvent) (m n : ℕ) (is
         let none : take i l ≡ [] = ap (λ (j : ℕ). take j l) (end ∙ r) in
         (v .broker ∙ ap (sentAll b) none, v .told ∙ ap (λ (z : List Order). over (eventsOf b z) e) none ∙ ap (λ (z : List OrderEvent). over z e) (events-none b))
 
-    pub send-answers : (r : SendAnswer) → r ≡ record { broker = c; number = m } → AnswersSend b l e r events
-    unfolding sendListNumber sendListBroker sendListEvents
+    pub send-answers : (r : SendAnswer) → r ≡ record { broker = c; fault = m } → AnswersSend b l e r events
+    unfolding sendListFault sendListBroker sendListEvents
     send-answers r is-r =
         let all = all-by m is-n in
         rw is-r
         (record {
           broker = all .0 ∙ ap (λ (k : ℕ). unlessDrawn k (sentAll b l) b) is-m;
-          number = is-m;
+          fault = is-m;
           events = all .1 ∙ ap (λ (k : ℕ). unlessDrawn k (over (eventsOf b l) e) e) is-m;
         })

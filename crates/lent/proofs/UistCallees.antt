@@ -2,39 +2,39 @@
 use mathlib.Core.Path.{_≡_}
 use prog.Routine.{Env}
 use borrow.Fn.World.{World}
-use Rattle.walks.proofs.Walk.{Callee, Knows, under}
-use Rattle.lent.proofs.folds.no_basis.Kinds as no-basis-Kinds
-use Rattle.lent.proofs.folds.no_basis.Reads as no-basis-Reads
-use Rattle.lent.proofs.folds.no_basis.Symbol as no-basis-Symbol
-use Rattle.lent.proofs.folds.no_basis.Met as no-basis-Met
-use Rattle.lent.proofs.folds.basis_step.Kinds as basis-step-Kinds
-use Rattle.lent.proofs.folds.basis_step.Reads as basis-step-Reads
-use Rattle.lent.proofs.folds.basis_step.Symbol as basis-step-Symbol
-use Rattle.lent.proofs.folds.basis_step.Met as basis-step-Met
+use Rattle.slices.proofs.Derivation.{Callee, Knows, under}
+use Rattle.portfolio.proofs.basis.no_basis.Kinds as no-basis-Kinds
+use Rattle.portfolio.proofs.basis.no_basis.Reads as no-basis-Reads
+use Rattle.portfolio.proofs.basis.no_basis.Symbol as no-basis-Symbol
+use Rattle.portfolio.proofs.basis.no_basis.Met as no-basis-Met
+use Rattle.portfolio.proofs.basis.basis_step.Kinds as basis-step-Kinds
+use Rattle.portfolio.proofs.basis.basis_step.Reads as basis-step-Reads
+use Rattle.portfolio.proofs.basis.basis_step.Symbol as basis-step-Symbol
+use Rattle.portfolio.proofs.basis.basis_step.Met as basis-step-Met
 use Rattle.lent.proofs.folds.value_of.Kinds as value-of-Kinds
 use Rattle.lent.proofs.folds.value_of.Reads as value-of-Reads
 use Rattle.lent.proofs.folds.value_of.Symbol as value-of-Symbol
 use Rattle.lent.proofs.folds.value_of.Met as value-of-Met
-use Rattle.lent.proofs.uist.log_fault.Kinds as log-fault-Kinds
-use Rattle.lent.proofs.uist.log_fault.Reads as log-fault-Reads
-use Rattle.lent.proofs.uist.log_fault.Symbol as log-fault-Symbol
-use Rattle.lent.proofs.uist.log_fault.Met as log-fault-Met
+use Rattle.broker.proofs.state.UistBroker.fault_for.Kinds as fault-for-Kinds
+use Rattle.broker.proofs.state.UistBroker.fault_for.Reads as fault-for-Reads
+use Rattle.broker.proofs.state.UistBroker.fault_for.Symbol as fault-for-Symbol
+use Rattle.broker.proofs.state.UistBroker.fault_for.Met as fault-for-Met
 use Rattle.lent.proofs.uist.basis_fault.Kinds as basis-fault-Kinds
 use Rattle.lent.proofs.uist.basis_fault.Reads as basis-fault-Reads
 use Rattle.lent.proofs.uist.basis_fault.Symbol as basis-fault-Symbol
 use Rattle.lent.proofs.uist.basis_fault.Met as basis-fault-Met
-use Rattle.lent.proofs.uist.lender_fault.Kinds as lender-fault-Kinds
-use Rattle.lent.proofs.uist.lender_fault.Reads as lender-fault-Reads
-use Rattle.lent.proofs.uist.lender_fault.Symbol as lender-fault-Symbol
-use Rattle.lent.proofs.uist.lender_fault.Met as lender-fault-Met
+use Rattle.broker.proofs.state.UistBroker.lender_fault.Kinds as lender-fault-Kinds
+use Rattle.broker.proofs.state.UistBroker.lender_fault.Reads as lender-fault-Reads
+use Rattle.broker.proofs.state.UistBroker.lender_fault.Symbol as lender-fault-Symbol
+use Rattle.broker.proofs.state.UistBroker.lender_fault.Met as lender-fault-Met
 use Rattle.lent.proofs.uist.rows_logged.Kinds as rows-logged-Kinds
 use Rattle.lent.proofs.uist.rows_logged.Reads as rows-logged-Reads
 use Rattle.lent.proofs.uist.rows_logged.Symbol as rows-logged-Symbol
 use Rattle.lent.proofs.uist.rows_logged.Met as rows-logged-Met
-use Rattle.lent.proofs.uist.rows_unless.Kinds as rows-unless-Kinds
-use Rattle.lent.proofs.uist.rows_unless.Reads as rows-unless-Reads
-use Rattle.lent.proofs.uist.rows_unless.Symbol as rows-unless-Symbol
-use Rattle.lent.proofs.uist.rows_unless.Met as rows-unless-Met
+use Rattle.market.proofs.fault.count_unless.Kinds as count-unless-Kinds
+use Rattle.market.proofs.fault.count_unless.Reads as count-unless-Reads
+use Rattle.market.proofs.fault.count_unless.Symbol as count-unless-Symbol
+use Rattle.market.proofs.fault.count_unless.Met as count-unless-Met
 use Rattle.lent.proofs.uist.basis_read.Kinds as basis-read-Kinds
 use Rattle.lent.proofs.uist.basis_read.Reads as basis-read-Reads
 use Rattle.lent.proofs.uist.basis_read.Symbol as basis-read-Symbol
@@ -87,10 +87,10 @@ use Rattle.lent.proofs.weights.blank_weights.Kinds as blank-weights-Kin
 use Rattle.lent.proofs.weights.blank_weights.Reads as blank-weights-Reads
 use Rattle.lent.proofs.weights.blank_weights.Symbol as blank-weights-Symbol
 use Rattle.lent.proofs.weights.blank_weights.Met as blank-weights-Met
-use Rattle.broker.proofs.weigh.Weights.of.Kinds as weights-of-Kinds
-use Rattle.broker.proofs.weigh.Weights.of.Reads as weights-of-Reads
-use Rattle.broker.proofs.weigh.Weights.of.Symbol as weights-of-Symbol
-use Rattle.broker.proofs.weigh.Weights.of.Met as weights-of-Met
+use Rattle.market.proofs.weight.Weights.of.Kinds as weights-of-Kinds
+use Rattle.market.proofs.weight.Weights.of.Reads as weights-of-Reads
+use Rattle.market.proofs.weight.Weights.of.Symbol as weights-of-Symbol
+use Rattle.market.proofs.weight.Weights.of.Met as weights-of-Met
 use Rattle.broker.proofs.state.UistBroker.diff_against_target_weights.Kinds as weigh-Kinds
 use Rattle.broker.proofs.state.UistBroker.diff_against_target_weights.Reads as weigh-Reads
 use Rattle.broker.proofs.state.UistBroker.diff_against_target_weights.Symbol as weigh-Symbol
@@ -141,16 +141,16 @@ use Rattle.lent.proofs.uist.update_answer.Symbol as update-answer-Symbo
 use Rattle.lent.proofs.uist.update_answer.Met as update-answer-Met
 
 abbrev pub no-basis : Callee
-no-basis = record { n = 0; ps = no-basis-Kinds.ps; r = no-basis-Kinds.r; Pre = no-basis-Reads.Asked; Post = no-basis-Reads.Learnt; key = "lent::folds::no_basis" }
+no-basis = record { n = 0; ps = no-basis-Kinds.ps; r = no-basis-Kinds.r; Pre = no-basis-Reads.Asked; Post = no-basis-Reads.Learnt; key = "portfolio::basis::no_basis" }
 
-pub knows-no-basis : (w : World) (γ : Env) → γ "lent::folds::no_basis" ≡ no-basis-Symbol.routine → Knows no-basis (under w γ)
-knows-no-basis w γ e = no-basis-Reads.known w γ "lent::folds::no_basis" no-basis-Symbol.routine e (no-basis-Met.met (w .𝓤) (w .H) (w .𝓜) (w .𝓖) (w .𝓡))
+pub knows-no-basis : (w : World) (γ : Env) → γ "portfolio::basis::no_basis" ≡ no-basis-Symbol.routine → Knows no-basis (under w γ)
+knows-no-basis w γ e = no-basis-Reads.known w γ "portfolio::basis::no_basis" no-basis-Symbol.routine e (no-basis-Met.met (w .𝓤) (w .H) (w .𝓜) (w .𝓖) (w .𝓡))
 
 abbrev pub basis-step : Callee
-basis-step = record { n = 0; ps = basis-step-Kinds.ps; r = basis-step-Kinds.r; Pre = basis-step-Reads.Asked; Post = basis-step-Reads.Learnt; key = "lent::folds::basis_step" }
+basis-step = record { n = 0; ps = basis-step-Kinds.ps; r = basis-step-Kinds.r; Pre = basis-step-Reads.Asked; Post = basis-step-Reads.Learnt; key = "portfolio::basis::basis_step" }
 
-pub knows-basis-step : (w : World) (γ : Env) → γ "lent::folds::basis_step" ≡ basis-step-Symbol.routine → Knows basis-step (under w γ)
-knows-basis-step w γ e = basis-step-Reads.known w γ "lent::folds::basis_step" basis-step-Symbol.routine e (basis-step-Met.met (w .𝓤) (w .H) (w .𝓜) (w .𝓖) (w .𝓡))
+pub knows-basis-step : (w : World) (γ : Env) → γ "portfolio::basis::basis_step" ≡ basis-step-Symbol.routine → Knows basis-step (under w γ)
+knows-basis-step w γ e = basis-step-Reads.known w γ "portfolio::basis::basis_step" basis-step-Symbol.routine e (basis-step-Met.met (w .𝓤) (w .H) (w .𝓜) (w .𝓖) (w .𝓡))
 
 abbrev pub value-of : Callee
 value-of = record { n = 0; ps = value-of-Kinds.ps; r = value-of-Kinds.r; Pre = value-of-Reads.Asked; Post = value-of-Reads.Learnt; key = "lent::folds::value_of" }
@@ -158,11 +158,11 @@ value-of = record { n = 0; ps = value-of-Kinds.ps; r = value-of-Kinds.r; Pre = v
 pub knows-value-of : (w : World) (γ : Env) → γ "lent::folds::value_of" ≡ value-of-Symbol.routine → Knows value-of (under w γ)
 knows-value-of w γ e = value-of-Reads.known w γ "lent::folds::value_of" value-of-Symbol.routine e (value-of-Met.met (w .𝓤) (w .H) (w .𝓜) (w .𝓖) (w .𝓡))
 
-abbrev pub log-fault : Callee
-log-fault = record { n = 0; ps = log-fault-Kinds.ps; r = log-fault-Kinds.r; Pre = log-fault-Reads.Asked; Post = log-fault-Reads.Learnt; key = "lent::uist::log_fault" }
+abbrev pub fault-for : Callee
+fault-for = record { n = 0; ps = fault-for-Kinds.ps; r = fault-for-Kinds.r; Pre = fault-for-Reads.Asked; Post = fault-for-Reads.Learnt; key = "broker::state::UistBroker::fault_for" }
 
-pub knows-log-fault : (w : World) (γ : Env) → γ "lent::uist::log_fault" ≡ log-fault-Symbol.routine → Knows log-fault (under w γ)
-knows-log-fault w γ e = log-fault-Reads.known w γ "lent::uist::log_fault" log-fault-Symbol.routine e (log-fault-Met.met (w .𝓤) (w .H) (w .𝓜) (w .𝓖) (w .𝓡))
+pub knows-fault-for : (w : World) (γ : Env) → γ "broker::state::UistBroker::fault_for" ≡ fault-for-Symbol.routine → Knows fault-for (under w γ)
+knows-fault-for w γ e = fault-for-Reads.known w γ "broker::state::UistBroker::fault_for" fault-for-Symbol.routine e (fault-for-Met.met (w .𝓤) (w .H) (w .𝓜) (w .𝓖) (w .𝓡))
 
 abbrev pub basis-fault : Callee
 basis-fault = record { n = 0; ps = basis-fault-Kinds.ps; r = basis-fault-Kinds.r; Pre = basis-fault-Reads.Asked; Post = basis-fault-Reads.Learnt; key = "lent::uist::basis_fault" }
@@ -171,10 +171,10 @@ pub knows-basis-fault : (w : World) (γ : Env) → γ "lent::uist::basis_fault" 
 knows-basis-fault w γ e = basis-fault-Reads.known w γ "lent::uist::basis_fault" basis-fault-Symbol.routine e (basis-fault-Met.met (w .𝓤) (w .H) (w .𝓜) (w .𝓖) (w .𝓡))
 
 abbrev pub lender-fault : Callee
-lender-fault = record { n = 0; ps = lender-fault-Kinds.ps; r = lender-fault-Kinds.r; Pre = lender-fault-Reads.Asked; Post = lender-fault-Reads.Learnt; key = "lent::uist::lender_fault" }
+lender-fault = record { n = 0; ps = lender-fault-Kinds.ps; r = lender-fault-Kinds.r; Pre = lender-fault-Reads.Asked; Post = lender-fault-Reads.Learnt; key = "broker::state::UistBroker::lender_fault" }
 
-pub knows-lender-fault : (w : World) (γ : Env) → γ "lent::uist::lender_fault" ≡ lender-fault-Symbol.routine → Knows lender-fault (under w γ)
-knows-lender-fault w γ e = lender-fault-Reads.known w γ "lent::uist::lender_fault" lender-fault-Symbol.routine e (lender-fault-Met.met (w .𝓤) (w .H) (w .𝓜) (w .𝓖) (w .𝓡))
+pub knows-lender-fault : (w : World) (γ : Env) → γ "broker::state::UistBroker::lender_fault" ≡ lender-fault-Symbol.routine → Knows lender-fault (under w γ)
+knows-lender-fault w γ e = lender-fault-Reads.known w γ "broker::state::UistBroker::lender_fault" lender-fault-Symbol.routine e (lender-fault-Met.met (w .𝓤) (w .H) (w .𝓜) (w .𝓖) (w .𝓡))
 
 abbrev pub rows-logged : Callee
 rows-logged = record { n = 0; ps = rows-logged-Kinds.ps; r = rows-logged-Kinds.r; Pre = rows-logged-Reads.Asked; Post = rows-logged-Reads.Learnt; key = "lent::uist::rows_logged" }
@@ -182,11 +182,11 @@ rows-logged = record { n = 0; ps = rows-logged-Kinds.ps; r = rows-logged-Kinds.r
 pub knows-rows-logged : (w : World) (γ : Env) → γ "lent::uist::rows_logged" ≡ rows-logged-Symbol.routine → Knows rows-logged (under w γ)
 knows-rows-logged w γ e = rows-logged-Reads.known w γ "lent::uist::rows_logged" rows-logged-Symbol.routine e (rows-logged-Met.met (w .𝓤) (w .H) (w .𝓜) (w .𝓖) (w .𝓡))
 
-abbrev pub rows-unless : Callee
-rows-unless = record { n = 0; ps = rows-unless-Kinds.ps; r = rows-unless-Kinds.r; Pre = rows-unless-Reads.Asked; Post = rows-unless-Reads.Learnt; key = "lent::uist::rows_unless" }
+abbrev pub count-unless : Callee
+count-unless = record { n = 0; ps = count-unless-Kinds.ps; r = count-unless-Kinds.r; Pre = count-unless-Reads.Asked; Post = count-unless-Reads.Learnt; key = "market::fault::count_unless" }
 
-pub knows-rows-unless : (w : World) (γ : Env) → γ "lent::uist::rows_unless" ≡ rows-unless-Symbol.routine → Knows rows-unless (under w γ)
-knows-rows-unless w γ e = rows-unless-Reads.known w γ "lent::uist::rows_unless" rows-unless-Symbol.routine e (rows-unless-Met.met (w .𝓤) (w .H) (w .𝓜) (w .𝓖) (w .𝓡))
+pub knows-count-unless : (w : World) (γ : Env) → γ "market::fault::count_unless" ≡ count-unless-Symbol.routine → Knows count-unless (under w γ)
+knows-count-unless w γ e = count-unless-Reads.known w γ "market::fault::count_unless" count-unless-Symbol.routine e (count-unless-Met.met (w .𝓤) (w .H) (w .𝓜) (w .𝓖) (w .𝓡))
 
 abbrev pub basis-read : Callee
 basis-read = record { n = 0; ps = basis-read-Kinds.ps; r = basis-read-Kinds.r; Pre = basis-read-Reads.Asked; Post = basis-read-Reads.Learnt; key = "lent::uist::basis_read" }
@@ -267,10 +267,10 @@ pub knows-blank-weights : (w : World) (γ : Env) → γ "lent::weights::blank_we
 knows-blank-weights w γ e = blank-weights-Reads.known w γ "lent::weights::blank_weights" blank-weights-Symbol.routine e (blank-weights-Met.met (w .𝓤) (w .H) (w .𝓜) (w .𝓖) (w .𝓡))
 
 abbrev pub weights-of : Callee
-weights-of = record { n = 0; ps = weights-of-Kinds.ps; r = weights-of-Kinds.r; Pre = weights-of-Reads.Asked; Post = weights-of-Reads.Learnt; key = "broker::weigh::Weights::of" }
+weights-of = record { n = 0; ps = weights-of-Kinds.ps; r = weights-of-Kinds.r; Pre = weights-of-Reads.Asked; Post = weights-of-Reads.Learnt; key = "market::weight::Weights::of" }
 
-pub knows-weights-of : (w : World) (γ : Env) → γ "broker::weigh::Weights::of" ≡ weights-of-Symbol.routine → Knows weights-of (under w γ)
-knows-weights-of w γ e = weights-of-Reads.known w γ "broker::weigh::Weights::of" weights-of-Symbol.routine e (weights-of-Met.met (w .𝓤) (w .H) (w .𝓜) (w .𝓖) (w .𝓡))
+pub knows-weights-of : (w : World) (γ : Env) → γ "market::weight::Weights::of" ≡ weights-of-Symbol.routine → Knows weights-of (under w γ)
+knows-weights-of w γ e = weights-of-Reads.known w γ "market::weight::Weights::of" weights-of-Symbol.routine e (weights-of-Met.met (w .𝓤) (w .H) (w .𝓜) (w .𝓖) (w .𝓡))
 
 abbrev pub weigh : Callee
 weigh = record { n = 0; ps = weigh-Kinds.ps; r = weigh-Kinds.r; Pre = weigh-Reads.Asked; Post = weigh-Reads.Learnt; key = "broker::state::UistBroker::diff_against_target_weights" }

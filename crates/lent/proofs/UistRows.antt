@@ -1,14 +1,15 @@
 -- The row types of the broker's calls: the declared structs that are lent, passed and answered. Assumes nothing.
 use mathlib.Core.List.{[]}
-use Rattle.market.specs.Orders.{zero64, eventOf}
+use Rattle.market.specs.Orders.{zero64, blankOrder, eventOf}
 use Rattle.costs.specs.Kept.{noCosts}
 use Rattle.exchange.specs.Tick.{noTrades}
 use Rattle.broker.specs.Build.{noBroker}
 use Rattle.broker.specs.Read.{readFloat}
-use Rattle.broker.specs.Send.{blankOrder, noOrders, noEvents}
-use Rattle.broker.specs.declared.value.Amount.the-variants.{Missing}
-use Rattle.lent.proofs.folds.Basis as Ba
-use Rattle.lent.proofs.folds.Basis.Laws as Ba′
+use Rattle.portfolio.specs.Lists.{noOrders}
+use Rattle.broker.specs.Send.{noEvents}
+use Rattle.portfolio.specs.declared.value.Amount.the-variants.{Missing}
+use Rattle.portfolio.proofs.basis.Basis as Ba
+use Rattle.portfolio.proofs.basis.Basis.Laws as Ba′
 use Rattle.broker.proofs.state.UistBroker as Br
 use Rattle.broker.proofs.state.UistBroker.Laws as Br′
 use Rattle.broker.proofs.read.AmountRead as Am
@@ -33,8 +34,8 @@ use Rattle.lent.proofs.uist.SendAnswer as SeA
 use Rattle.lent.proofs.uist.SendAnswer.Laws as SeA′
 use Rattle.market.proofs.weight.Weight as We
 use Rattle.market.proofs.weight.Weight.Laws as We′
-use Rattle.broker.proofs.weigh.Weights as Ws
-use Rattle.broker.proofs.weigh.Weights.Laws as Ws′
+use Rattle.market.proofs.weight.Weights as Ws
+use Rattle.market.proofs.weight.Weights.Laws as Ws′
 use Rattle.broker.proofs.walk.Walked as Wa
 use Rattle.broker.proofs.walk.Walked.Laws as Wa′
 use Rattle.lent.proofs.uist.WalkAnswer as WaA
@@ -45,7 +46,7 @@ use Rattle.broker.proofs.update.Updated as Up
 use Rattle.broker.proofs.update.Updated.Laws as Up′
 use Rattle.lent.proofs.uist.UpdateAnswer as UpA
 use Rattle.lent.proofs.uist.UpdateAnswer.Laws as UpA′
-use Rattle.walks.proofs.Walk.{Kin, struct}
+use Rattle.slices.proofs.Derivation.{Kin, struct}
 
 abbrev pub basis : Kin
 basis = struct Ba.the-type Ba′.the-laws Ba′.the-copy Ba′.the-plain (record { quantity = zero64; value = zero64 }) tt
@@ -54,7 +55,7 @@ abbrev pub uist-broker : Kin
 uist-broker = struct Br.the-type Br′.the-laws Br′.the-copy Br′.the-plain noBroker tt
 
 abbrev pub amount-read : Kin
-amount-read = struct Am.the-type Am′.the-laws Am′.the-copy Am′.the-plain (record { amount = Missing; number = 0 }) tt
+amount-read = struct Am.the-type Am′.the-laws Am′.the-copy Am′.the-plain (record { amount = Missing; fault = 0 }) tt
 
 abbrev pub float-read : Kin
 float-read = struct Fl.the-type Fl′.the-laws Fl′.the-copy Fl′.the-plain (readFloat zero64 0) tt
@@ -63,13 +64,13 @@ abbrev pub trade-costs : Kin
 trade-costs = struct Co.the-type Co′.the-laws Co′.the-copy Co′.the-plain noCosts tt
 
 abbrev pub built : Kin
-built = struct Bu.the-type Bu′.the-laws Bu′.the-copy Bu′.the-plain (record { broker = noBroker; number = 0 }) tt
+built = struct Bu.the-type Bu′.the-laws Bu′.the-copy Bu′.the-plain (record { broker = noBroker; fault = 0 }) tt
 
 abbrev pub checked : Kin
-checked = struct Ch.the-type Ch′.the-laws Ch′.the-copy Ch′.the-plain (record { broker = noBroker; trades = noTrades; count = 0; first = 0; queued = 0; number = 0 }) tt
+checked = struct Ch.the-type Ch′.the-laws Ch′.the-copy Ch′.the-plain (record { broker = noBroker; trades = noTrades; count = 0; first = 0; queued = 0; fault = 0 }) tt
 
 abbrev pub check-answer : Kin
-check-answer = struct ChA.the-type ChA′.the-laws ChA′.the-copy ChA′.the-plain (record { broker = noBroker; traded = 0; queued = 0; number = 0 }) tt
+check-answer = struct ChA.the-type ChA′.the-laws ChA′.the-copy ChA′.the-plain (record { broker = noBroker; traded = 0; queued = 0; fault = 0 }) tt
 
 abbrev pub order : Kin
 order = struct Or.the-type Or′.the-laws Or′.the-copy Or′.the-plain blankOrder tt
@@ -81,7 +82,7 @@ abbrev pub sent : Kin
 sent = struct Se.the-type Se′.the-laws Se′.the-copy Se′.the-plain (record { broker = noBroker; event = eventOf blankOrder 0 }) tt
 
 abbrev pub send-answer : Kin
-send-answer = struct SeA.the-type SeA′.the-laws SeA′.the-copy SeA′.the-plain (record { broker = noBroker; number = 0 }) tt
+send-answer = struct SeA.the-type SeA′.the-laws SeA′.the-copy SeA′.the-plain (record { broker = noBroker; fault = 0 }) tt
 
 abbrev pub weight : Kin
 weight = struct We.the-type We′.the-laws We′.the-copy We′.the-plain (record { symbol = 0; weight = zero64 }) tt
@@ -90,16 +91,16 @@ abbrev pub weights : Kin
 weights = struct Ws.the-type Ws′.the-laws Ws′.the-copy Ws′.the-plain (record { rows = []; count = 0; fault = 0 }) tt
 
 abbrev pub walked : Kin
-walked = struct Wa.the-type Wa′.the-laws Wa′.the-copy Wa′.the-plain (record { orders = noOrders .orders; count = 0; number = 0 }) tt
+walked = struct Wa.the-type Wa′.the-laws Wa′.the-copy Wa′.the-plain (record { orders = noOrders .orders; count = 0; fault = 0 }) tt
 
 abbrev pub walk-answer : Kin
-walk-answer = struct WaA.the-type WaA′.the-laws WaA′.the-copy WaA′.the-plain (record { count = 0; number = 0 }) tt
+walk-answer = struct WaA.the-type WaA′.the-laws WaA′.the-copy WaA′.the-plain (record { count = 0; fault = 0 }) tt
 
 abbrev pub lengths : Kin
 lengths = struct Le.the-type Le′.the-laws Le′.the-copy Le′.the-plain (record { log = 0; events = 0; weights = 0 }) tt
 
 abbrev pub updated : Kin
-updated = struct Up.the-type Up′.the-laws Up′.the-copy Up′.the-plain (record { broker = noBroker; trades = noTrades; count = 0; first = 0; events = noEvents; sent = 0; total = zero64; number = 0 }) tt
+updated = struct Up.the-type Up′.the-laws Up′.the-copy Up′.the-plain (record { broker = noBroker; trades = noTrades; count = 0; first = 0; events = noEvents; sent = 0; total = zero64; fault = 0 }) tt
 
 abbrev pub update-answer : Kin
-update-answer = struct UpA.the-type UpA′.the-laws UpA′.the-copy UpA′.the-plain (record { broker = noBroker; total = zero64; sent = 0; number = 0 }) tt
+update-answer = struct UpA.the-type UpA′.the-laws UpA′.the-copy UpA′.the-plain (record { broker = noBroker; total = zero64; sent = 0; fault = 0 }) tt

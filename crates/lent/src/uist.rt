@@ -3,14 +3,14 @@
 ghost use mathlib.Core.Path.{_≡_};
 ghost use mathlib.Core.List.{[], _∷_};
 ghost use lib.Dec.{ltb};
-ghost use Rattle.market.specs.Numbers.{_draws_, drawn, unlessDrawn};
+ghost use Rattle.market.specs.Faults.{_draws_, drawn, unlessDrawn};
 ghost use Rattle.rules.specs.Basis.{basisOf, costBasis, turnover};
-ghost use Rattle.broker.specs.Walk.{lenderTests};
+ghost use Rattle.broker.specs.Lender.{lengthTest};
 ghost use Rattle.broker.specs.Read.{ReadsAmount, readFloat};
 ghost use Rattle.broker.specs.Lent.{buildFor};
-ghost use Rattle.lent.specs.Logs.{basisIn, loggedIn, lengthTest, turnoverNumber, basisNumber};
+ghost use Rattle.portfolio.specs.Basis.{basisIn};
+ghost use Rattle.lent.specs.Logs.{loggedIn, turnoverFault, basisFault};
 ghost use Rattle.lent.specs.Answers.{AnswersCheck, AnswersSend, AnswersWalk, AnswersUpdate};
-use crate::folds::Basis;
 use crate::folds::fold_basis;
 use crate::folds::fold_turnover;
 use crate::log::store_trades;
@@ -26,33 +26,35 @@ use broker::send::Sent;
 use broker::state::UistBroker;
 use broker::update::Lengths;
 use broker::update::Updated;
-use broker::value::Amount;
 use broker::walk::Walked;
 use costs::TradeCosts;
+use market::fault::count_unless;
 use market::order::Order;
 use market::order::OrderEvent;
 use market::quote::Quote;
 use market::trade::Trade;
 use market::weight::Weight;
+use portfolio::basis::Basis;
+use portfolio::value::Amount;
 
 // How many orders traded, how many sells were queued, and the number drawn, or 0.
 pub struct CheckAnswer {
     pub broker: UistBroker,
     pub traded: usize,
     pub queued: usize,
-    pub number: u32,
+    pub fault: u32,
 }
 
 // The number drawn, or 0.
 pub struct SendAnswer {
     pub broker: UistBroker,
-    pub number: u32,
+    pub fault: u32,
 }
 
 // How many orders were written, and the number drawn, or 0.
 pub struct WalkAnswer {
     pub count: usize,
-    pub number: u32,
+    pub fault: u32,
 }
 
 // The total value, how many events were written, and the number drawn, or 0.
@@ -60,119 +62,27 @@ pub struct UpdateAnswer {
     pub broker: UistBroker,
     pub total: f64,
     pub sent: usize,
-    pub number: u32,
-}
-
-// 16, or 0, for a log of this length.
-pub(crate) fn log_fault(broker: UistBroker, log_length: usize) -> u32
-    ensures { λ r. ⌜ r ≡ drawn (lengthTest broker «log_length» ∷ []) ⌝ }
-{
-    let exchange = broker.exchange;
-    let counts = exchange.counts;
-    if log_length as u64 != counts.room {
-        return 16;
-    }
-    if counts.broken() { 16 } else { 0 }
-}
-
-// 16, then 1 for a symbol above 255, or 0.
-pub(crate) fn basis_fault(broker: UistBroker, log_length: usize, symbol: u32) -> u32
-    ensures { λ r. ⌜ r ≡ drawn (lengthTest broker «log_length» ∷ (ltb 255 symbol draws 1) ∷ []) ⌝ }
-{
-    let fault = log_fault(broker, log_length);
-    if fault != 0 {
-        return fault;
-    }
-    if symbol > 255 { 1 } else { 0 }
-}
-
-// 16, then 15 where a list of `room` entries is lent for `rows` rows, or 0.
-pub(crate) fn lender_fault(broker: UistBroker, rows: usize, room: usize) -> u32
-    ensures { λ r. ⌜ r ≡ drawn (lenderTests (broker .exchange .counts) rows room) ⌝ }
-{
-    let exchange = broker.exchange;
-    let counts = exchange.counts;
-    if counts.broken() {
-        return 16;
-    }
-    if room < rows { 15 } else { 0 }
-}
-
-// How many rows of the log are read: none where a number is drawn.
-pub(crate) fn rows_logged(broker: UistBroker, number: u32) -> usize
-    ensures { λ r. ⌜ r ≡ unlessDrawn number (broker .exchange .counts .logged) 0 ⌝ }
-{
-    let exchange = broker.exchange;
-    let counts = exchange.counts;
-    if number != 0 {
-        0
-    } else {
-        counts.logged as usize
-    }
-}
-
-// None of `n` where a number is drawn.
-pub(crate) fn rows_unless(n: usize, number: u32) -> usize
-    ensures { λ r. ⌜ r ≡ unlessDrawn number n 0 ⌝ }
-{
-    if number != 0 { 0 } else { n }
-}
-
-// None at quantity zero, else value / quantity.
-pub(crate) fn basis_read(b: Basis, number: u32) -> AmountRead
-    ensures { λ r. ⌜ ReadsAmount (basisOf (basisIn b)) number r ⌝ }
-{
-    if number != 0 {
-        return AmountRead {
-            amount: Amount::Missing,
-            number: number,
-        };
-    }
-    if b.quantity == 0.0 {
-        return AmountRead {
-            amount: Amount::Missing,
-            number: number,
-        };
-    }
-    AmountRead {
-        amount: Amount::Of(b.value / b.quantity),
-        number: number,
-    }
-}
-
-pub(crate) fn turnover_read(sum: f64, number: u32) -> FloatRead
-    ensures { λ r. ⌜ r ≡ readFloat sum number ⌝ }
-{
-    if number != 0 {
-        return FloatRead {
-            value: 0.0,
-            number: number,
-        };
-    }
-    FloatRead {
-        value: sum,
-        number: number,
-    }
+    pub fault: u32,
 }
 
 // The cost basis of a symbol, from the log's trades.
 pub fn cost_basis(broker: UistBroker, log: &[Trade], symbol: u32) -> AmountRead
-    ensures { λ r. ⌜ ReadsAmount (costBasis (loggedIn broker (now (log .entry))) symbol) (basisNumber broker (now (log .entry)) symbol) r ⌝ }
+    ensures { λ r. ⌜ ReadsAmount (costBasis (loggedIn broker (now (log .entry))) symbol) (basisFault broker (now (log .entry)) symbol) r ⌝ }
 {
-    let number = basis_fault(broker, log.len(), symbol);
-    let n = rows_logged(broker, number);
+    let fault = basis_fault(broker, log.len(), symbol);
+    let n = rows_logged(broker, fault);
     let b = fold_basis(log, n, symbol);
-    basis_read(b, number)
+    basis_read(b, fault)
 }
 
 // The sum of the values of the log's trades.
 pub fn turnover(broker: UistBroker, log: &[Trade]) -> FloatRead
-    ensures { λ r. ⌜ r ≡ readFloat (turnover (loggedIn broker (now (log .entry)))) (turnoverNumber broker (now (log .entry))) ⌝ }
+    ensures { λ r. ⌜ r ≡ readFloat (turnover (loggedIn broker (now (log .entry)))) (turnoverFault broker (now (log .entry))) ⌝ }
 {
-    let number = log_fault(broker, log.len());
-    let n = rows_logged(broker, number);
+    let fault = broker.fault_for(log.len());
+    let n = rows_logged(broker, fault);
     let sum = fold_turnover(log, n);
-    turnover_read(sum, number)
+    turnover_read(sum, fault)
 }
 
 // A fresh broker for this log; the table's rows are the first latest quotes.
@@ -181,36 +91,6 @@ pub fn build(costs: TradeCosts, first: &[Quote], log: &[Trade]) -> Built
 {
     let t = read_table(first);
     UistBroker::build(costs, t, log.len() as u64)
-}
-
-pub(crate) fn checked_trades(c: Checked) -> [Trade; 1024]
-    ensures { λ r. ⌜ r ≡ c .trades ⌝ }
-{
-    c.trades
-}
-
-pub(crate) fn checked_count(c: Checked) -> usize
-    ensures { λ r. ⌜ r ≡ c .count ⌝ }
-{
-    c.count
-}
-
-pub(crate) fn checked_first(c: Checked) -> usize
-    ensures { λ r. ⌜ r ≡ c .first ⌝ }
-{
-    c.first
-}
-
-pub(crate) fn check_answer(c: Checked) -> CheckAnswer
-    ensures { λ r. ⌜ r ≡ record { broker = c .broker; traded = c .count; queued = c .queued; number = c .number } ⌝ }
-{
-    let broker = c.broker;
-    CheckAnswer {
-        broker: broker,
-        traded: c.count,
-        queued: c.queued,
-        number: c.number,
-    }
 }
 
 // Ticks on the tradable quotes, takes the fetched ones and books the trades, which become the log's
@@ -233,33 +113,12 @@ pub fn check(
     check_answer(x)
 }
 
-pub(crate) fn event_of(x: Sent) -> OrderEvent
-    ensures { λ r. ⌜ r ≡ x .event ⌝ }
-{
-    x.event
-}
-
-pub(crate) fn broker_of(x: Sent) -> UistBroker
-    ensures { λ r. ⌜ r ≡ x .broker ⌝ }
-{
-    x.broker
-}
-
-pub(crate) fn send_answer(broker: UistBroker, number: u32) -> SendAnswer
-    ensures { λ r. ⌜ r ≡ record { broker = broker; number = number } ⌝ }
-{
-    SendAnswer {
-        broker: broker,
-        number: number,
-    }
-}
-
 // Sends the orders one after the other; each has its own event, in its place.
 pub fn send_orders(broker: UistBroker, orders: &[Order], events: &mut [OrderEvent]) -> SendAnswer
     ensures { λ r. ⌜ AnswersSend broker (now (orders .entry)) (now (events .entry)) r (now (events .exit)) ⌝ }
 {
-    let number = lender_fault(broker, orders.len(), events.len());
-    let n = rows_unless(orders.len(), number);
+    let fault = broker.lender_fault(orders.len(), events.len());
+    let n = count_unless(fault, orders.len());
     let mut b = broker;
     let mut i = 0;
     while i < n {
@@ -270,28 +129,7 @@ pub fn send_orders(broker: UistBroker, orders: &[Order], events: &mut [OrderEven
         b = broker_of(x);
         i = i + 1;
     }
-    send_answer(b, number)
-}
-
-pub(crate) fn walked_orders(x: Walked) -> [Order; 256]
-    ensures { λ r. ⌜ r ≡ x .orders ⌝ }
-{
-    x.orders
-}
-
-pub(crate) fn walked_count(x: Walked) -> usize
-    ensures { λ r. ⌜ r ≡ x .count ⌝ }
-{
-    x.count
-}
-
-pub(crate) fn walk_answer(x: Walked) -> WalkAnswer
-    ensures { λ r. ⌜ r ≡ record { count = x .count; number = x .number } ⌝ }
-{
-    WalkAnswer {
-        count: x.count,
-        number: x.number,
-    }
+    send_answer(b, fault)
 }
 
 // The walk alone: its orders are written to the lent list.
@@ -308,6 +146,161 @@ pub fn diff_against_target_weights(
     let n = walked_count(x);
     store_orders(orders, 0, rows, n);
     walk_answer(x)
+}
+
+// A check, then the orders that the weights come to; each has its own event, in its place.
+pub fn update(
+    broker: UistBroker,
+    tradable: &[Quote],
+    fetched: &[Quote],
+    weights: &[Weight],
+    events: &mut [OrderEvent],
+    log: &mut [Trade],
+) -> UpdateAnswer
+    ensures { λ r. ⌜ AnswersUpdate broker (now (tradable .entry)) (now (fetched .entry)) (now (weights .entry)) (now (events .entry)) (now (log .entry)) r (now (events .exit)) (now (log .exit)) ⌝ }
+{
+    let t = read_table(tradable);
+    let f = read_table(fetched);
+    let w = read_weights(weights);
+    let lengths = lengths_of(log.len(), events.len(), weights.len());
+    let x = broker.update(t, f, w, lengths);
+    let trades = updated_trades(x);
+    let n = updated_count(x);
+    let first = updated_first(x);
+    store_trades(log, first, trades, n);
+    let rows = updated_events(x);
+    let sent = updated_sent(x);
+    store_events(events, 0, rows, sent);
+    update_answer(x)
+}
+
+// 16, then 1 for a symbol above 255, or 0.
+pub(crate) fn basis_fault(broker: UistBroker, log_length: usize, symbol: u32) -> u32
+    ensures { λ r. ⌜ r ≡ drawn (lengthTest broker «log_length» ∷ (ltb 255 symbol draws 1) ∷ []) ⌝ }
+{
+    let fault = broker.fault_for(log_length);
+    if fault != 0 {
+        return fault;
+    }
+    if symbol > 255 { 1 } else { 0 }
+}
+
+// How many rows of the log are read: none where a number is drawn.
+pub(crate) fn rows_logged(broker: UistBroker, fault: u32) -> usize
+    ensures { λ r. ⌜ r ≡ unlessDrawn fault (broker .exchange .counts .logged) 0 ⌝ }
+{
+    let exchange = broker.exchange;
+    let counts = exchange.counts;
+    count_unless(fault, counts.logged as usize)
+}
+
+// None at quantity zero, else value / quantity.
+pub(crate) fn basis_read(b: Basis, fault: u32) -> AmountRead
+    ensures { λ r. ⌜ ReadsAmount (basisOf (basisIn b)) fault r ⌝ }
+{
+    if fault != 0 {
+        return AmountRead {
+            amount: Amount::Missing,
+            fault: fault,
+        };
+    }
+    if b.quantity == 0.0 {
+        return AmountRead {
+            amount: Amount::Missing,
+            fault: fault,
+        };
+    }
+    AmountRead {
+        amount: Amount::Of(b.value / b.quantity),
+        fault: fault,
+    }
+}
+
+pub(crate) fn turnover_read(sum: f64, fault: u32) -> FloatRead
+    ensures { λ r. ⌜ r ≡ readFloat sum fault ⌝ }
+{
+    if fault != 0 {
+        return FloatRead {
+            value: 0.0,
+            fault: fault,
+        };
+    }
+    FloatRead {
+        value: sum,
+        fault: fault,
+    }
+}
+
+pub(crate) fn checked_trades(c: Checked) -> [Trade; 1024]
+    ensures { λ r. ⌜ r ≡ c .trades ⌝ }
+{
+    c.trades
+}
+
+pub(crate) fn checked_count(c: Checked) -> usize
+    ensures { λ r. ⌜ r ≡ c .count ⌝ }
+{
+    c.count
+}
+
+pub(crate) fn checked_first(c: Checked) -> usize
+    ensures { λ r. ⌜ r ≡ c .first ⌝ }
+{
+    c.first
+}
+
+pub(crate) fn check_answer(c: Checked) -> CheckAnswer
+    ensures { λ r. ⌜ r ≡ record { broker = c .broker; traded = c .count; queued = c .queued; fault = c .fault } ⌝ }
+{
+    let broker = c.broker;
+    CheckAnswer {
+        broker: broker,
+        traded: c.count,
+        queued: c.queued,
+        fault: c.fault,
+    }
+}
+
+pub(crate) fn event_of(x: Sent) -> OrderEvent
+    ensures { λ r. ⌜ r ≡ x .event ⌝ }
+{
+    x.event
+}
+
+pub(crate) fn broker_of(x: Sent) -> UistBroker
+    ensures { λ r. ⌜ r ≡ x .broker ⌝ }
+{
+    x.broker
+}
+
+pub(crate) fn send_answer(broker: UistBroker, fault: u32) -> SendAnswer
+    ensures { λ r. ⌜ r ≡ record { broker = broker; fault = fault } ⌝ }
+{
+    SendAnswer {
+        broker: broker,
+        fault: fault,
+    }
+}
+
+pub(crate) fn walked_orders(x: Walked) -> [Order; 256]
+    ensures { λ r. ⌜ r ≡ x .orders ⌝ }
+{
+    x.orders
+}
+
+pub(crate) fn walked_count(x: Walked) -> usize
+    ensures { λ r. ⌜ r ≡ x .count ⌝ }
+{
+    x.count
+}
+
+pub(crate) fn walk_answer(x: Walked) -> WalkAnswer
+    ensures { λ r. ⌜ r ≡ record { count = x .count; fault = x .fault } ⌝ }
+{
+    WalkAnswer {
+        count: x.count,
+        fault: x.fault,
+    }
 }
 
 pub(crate) fn lengths_of(log: usize, events: usize, weights: usize) -> Lengths
@@ -351,39 +344,13 @@ pub(crate) fn updated_sent(x: Updated) -> usize
 }
 
 pub(crate) fn update_answer(x: Updated) -> UpdateAnswer
-    ensures { λ r. ⌜ r ≡ record { broker = x .broker; total = x .total; sent = x .sent; number = x .number } ⌝ }
+    ensures { λ r. ⌜ r ≡ record { broker = x .broker; total = x .total; sent = x .sent; fault = x .fault } ⌝ }
 {
     let broker = x.broker;
     UpdateAnswer {
         broker: broker,
         total: x.total,
         sent: x.sent,
-        number: x.number,
+        fault: x.fault,
     }
-}
-
-// A check, then the orders that the weights come to; each has its own event, in its place.
-pub fn update(
-    broker: UistBroker,
-    tradable: &[Quote],
-    fetched: &[Quote],
-    weights: &[Weight],
-    events: &mut [OrderEvent],
-    log: &mut [Trade],
-) -> UpdateAnswer
-    ensures { λ r. ⌜ AnswersUpdate broker (now (tradable .entry)) (now (fetched .entry)) (now (weights .entry)) (now (events .entry)) (now (log .entry)) r (now (events .exit)) (now (log .exit)) ⌝ }
-{
-    let t = read_table(tradable);
-    let f = read_table(fetched);
-    let w = read_weights(weights);
-    let lengths = lengths_of(log.len(), events.len(), weights.len());
-    let x = broker.update(t, f, w, lengths);
-    let trades = updated_trades(x);
-    let n = updated_count(x);
-    let first = updated_first(x);
-    store_trades(log, first, trades, n);
-    let rows = updated_events(x);
-    let sent = updated_sent(x);
-    store_events(events, 0, rows, sent);
-    update_answer(x)
 }

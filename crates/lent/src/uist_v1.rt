@@ -9,24 +9,6 @@ use exchange::tick::Ticked;
 use market::quote::Quote;
 use market::trade::Trade;
 
-pub(crate) fn trades_of(x: Ticked) -> [Trade; 1024]
-    ensures { λ r. ⌜ r ≡ x .trades ⌝ }
-{
-    x.trades
-}
-
-pub(crate) fn count_of(x: Ticked) -> usize
-    ensures { λ r. ⌜ r ≡ x .count ⌝ }
-{
-    x.count
-}
-
-pub(crate) fn first_of(x: Ticked) -> usize
-    ensures { λ r. ⌜ r ≡ x .first ⌝ }
-{
-    x.first
-}
-
 // A fresh exchange for this log.
 pub fn open(log: &[Trade]) -> UistV1
     ensures { λ r. ⌜ r ≡ openOf (now (log .entry)) ⌝ }
@@ -45,4 +27,22 @@ pub fn tick(exchange: UistV1, quotes: &[Quote], log: &mut [Trade]) -> TickAnswer
     let first = first_of(x);
     store_trades(log, first, trades, n);
     x.answer()
+}
+
+pub(crate) fn trades_of(x: Ticked) -> [Trade; 1024]
+    ensures { λ r. ⌜ r ≡ x .trades ⌝ }
+{
+    x.trades
+}
+
+pub(crate) fn count_of(x: Ticked) -> usize
+    ensures { λ r. ⌜ r ≡ x .count ⌝ }
+{
+    x.count
+}
+
+pub(crate) fn first_of(x: Ticked) -> usize
+    ensures { λ r. ⌜ r ≡ x .first ⌝ }
+{
+    x.first
 }

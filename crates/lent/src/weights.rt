@@ -5,8 +5,8 @@ ghost use lib.ListN.{length};
 ghost use lib.Seq.{paste};
 ghost use Rattle.lent.specs.Walks.{ReadsWeights};
 use crate::tables::rows_read;
-use broker::weigh::Weights;
 use market::weight::Weight;
+use market::weight::Weights;
 
 pub(crate) fn blank_weights() -> [Weight; 257] {
     let w = Weight {

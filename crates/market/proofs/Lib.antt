@@ -1,4 +1,5 @@
--- The laws of the market's definitions, for callers, and the steps of the loop that makes a table.
-pub mod Numbers
+-- The laws of the market's definitions, for callers, and the steps of the loops over rows.
+pub mod Faults
+pub mod Rows
 pub mod Tables
-pub mod TableLoop
+pub mod Weights

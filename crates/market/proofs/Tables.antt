@@ -1,61 +1,48 @@
 -- Laws of the table by symbol: its number, its rows, its lengths, and that 257 rows are enough.
-use Prim.Native.Nat.{ℕ, zero, suc, _+_, _<_, _≤_}
-use mathlib.Core.Path.{_≡_, refl, ap, sym, _∙_}
-use mathlib.Core.Bool.{Bool, true, false, cond}
-use mathlib.Core.List.{List, [], _∷_}
+use Prim.Native.Nat.{ℕ, zero, suc, _+_, _<_, _%_}
+use mathlib.Core.Path.{_≡_, refl, ap, ap₂, sym, _∙_}
+use mathlib.Core.Bool.{Bool, true, false, _&&_, cond}
+use mathlib.Core.List.{List, [], _∷_, _++_, foldl, foldl-append}
 use mathlib.Core.Option.{Option, none, some}
 use native.Mathlib.Omega.{arith}
+use native.Mathlib.Nat.{mod-eq-of-lt}
 use lib.Dec.{ltb, eqb}
 use lib.ListN.{length, take, getD, replicate, length-set, length-replicate}
 use lib.Seq.{getD-set-same, getD-set-other}
-use borrow.Author.Tests.{lt-ltb, ne-eqb, eqb-true, eqb-false}
-use Rattle.lists.specs.Lists.{given}
-use Rattle.market.specs.Numbers.{drawn, unlessDrawn}
-use Rattle.market.specs.Quotes.{blankQuote, noQuote, rowTests, tableTests, rowFor, emptyTable, putRow, faulted, tableFrom, tableOf, rowAt}
+use borrow.Author.Tests.{lt-ltb, ltb-true, ne-eqb, eqb-true, eqb-false}
+use Rattle.lists.specs.Lists.{given, All}
+use Rattle.market.specs.Faults.{drawn}
+use Rattle.market.specs.Quotes.{blankQuote, noQuote, isPrice, rowTests, tableTests, rowFor, emptyTable, putRow, faulted, tableOf, rowAt}
+use Rattle.market.specs.Rows.{goodRows}
+use Rattle.market.specs.Trades.{rowIf}
 use Rattle.market.specs.declared.quote.Quote.{Quote}
 use Rattle.market.specs.declared.table.Table.{Table}
-use Rattle.market.proofs.Numbers.{drawn-append, append-none, row-numbered, row-ascends}
+use Rattle.market.proofs.Faults.{Numbered}
+use Rattle.market.proofs.Rows as Rows
+use Rattle.market.proofs.Rows.{Ascends, RowLaws, supplier-laws, rows-numbered, good-all, most-drew, most-good, RowsRead}
 
--- ---- one row
+-- ---- rows of quotes
 
-module _ (least : ℕ) (t : Table) (q : Quote) (l : List Quote) where
-  -- a row that draws nothing is put in
-  pub from-put : drawn (rowTests least q) ≡ 0 → tableFrom least t (q ∷ l) ≡ tableFrom (q .symbol + 1) (putRow t q) l
-  unfolding tableFrom
-  from-put e = rw e
+pub quote-laws : RowLaws rowTests (λ (q : Quote). q .symbol)
+quote-laws = supplier-laws (λ (q : Quote). q .symbol) (λ q. isPrice (q .bid) && isPrice (q .ask))
 
-  -- a row that draws a number ends the table
-  pub from-faulted : (drawn (rowTests least q) ≡ 0 → ⊥) → tableFrom least t (q ∷ l) ≡ faulted t (drawn (rowTests least q))
-  unfolding tableFrom
-  from-faulted d = drew (drawn (rowTests least q)) d
-    where
-      drew : (n : ℕ) → (n ≡ 0 → ⊥) → unlessDrawn n (tableFrom (q .symbol + 1) (putRow t q) l) (faulted t n) ≡ faulted t n
-      drew zero d = absurd (d refl)
-      drew (suc n) d = refl
+-- a row that drew nothing ascends, and its symbol is at most 255
+pub row-ascends : (least : ℕ) (q : Quote) → drawn (rowTests least q) ≡ 0 → Ascends least (q .symbol)
+row-ascends least q e = quote-laws .ascends least q e
+
+pub table-numbered : (least : ℕ) (l : List Quote) → All Numbered (tableTests least l)
+table-numbered least l = rows-numbered rowTests (λ q. q .symbol) quote-laws least l
 
 -- where the rows draw nothing, the first does not, nor do the others
 pub rows-none : (least : ℕ) (q : Quote) (l : List Quote) → drawn (tableTests least (q ∷ l)) ≡ 0 → (drawn (rowTests least q) ≡ 0) × (drawn (tableTests (q .symbol + 1) l) ≡ 0)
-rows-none least q l e = append-none (rowTests least q) (tableTests (q .symbol + 1) l) (row-numbered least q) e
+rows-none least q l e = Rows.rows-none rowTests (λ q. q .symbol) quote-laws least q l e
 
 -- ---- the number that the rows drew
 
-fault-by : (n : ℕ) (t u : Table) (m : ℕ) → u .fault ≡ m → unlessDrawn n u (faulted t n) .fault ≡ unlessDrawn n m n
-fault-by zero t u m e = e
-fault-by (suc n) t u m e = refl
-
-from-fault : (least : ℕ) (t : Table) (l : List Quote) → t .fault ≡ 0 → tableFrom least t l .fault ≡ drawn (tableTests least l)
-unfolding tableFrom drawn
-from-fault least t [] z = z
-from-fault least t (q ∷ l) z =
-    let next = tableFrom (q .symbol + 1) (putRow t q) l in
-    let others = tableTests (q .symbol + 1) l in
-    fault-by (drawn (rowTests least q)) t next (drawn others) (from-fault (q .symbol + 1) (putRow t q) l z)
-    ∙ sym (drawn-append (rowTests least q) others (row-numbered least q))
-
--- the table keeps the number that its rows drew
+-- the table keeps it
 pub table-fault : (l : List Quote) → tableOf l .fault ≡ drawn (tableTests 0 l)
-unfolding tableOf emptyTable
-table-fault l = from-fault 0 emptyTable l refl
+unfolding tableOf
+table-fault l = refl
 
 -- ---- the arrays' lengths
 
@@ -65,15 +52,9 @@ Long t = (length (t .present) ≡ 256) × (length (t .rows) ≡ 256)
 put-long : (t : Table) (q : Quote) → Long t → Long (putRow t q)
 put-long t q s = (length-set (t .present) (q .symbol) true ∙ s .0, length-set (t .rows) (q .symbol) q ∙ s .1)
 
-long-by : (n : ℕ) (t u : Table) → Long t → Long u → Long (unlessDrawn n u (faulted t n))
-long-by zero t u s r = r
-long-by (suc n) t u s r = s
-
-from-long : (least : ℕ) (t : Table) (l : List Quote) → Long t → Long (tableFrom least t l)
-unfolding tableFrom
-from-long least t [] s = s
-from-long least t (q ∷ l) s =
-    long-by (drawn (rowTests least q)) t (tableFrom (q .symbol + 1) (putRow t q) l) s (from-long (q .symbol + 1) (putRow t q) l (put-long t q s))
+all-long : (t : Table) (l : List Quote) → Long t → Long (foldl putRow t l)
+all-long t [] s = s
+all-long t (q ∷ l) s = all-long (putRow t q) l (put-long t q s)
 
 empty-long : Long emptyTable
 unfolding emptyTable
@@ -81,35 +62,31 @@ empty-long = (length-replicate 256 false, length-replicate 256 blankQuote)
 
 pub table-present-length : (l : List Quote) → length (tableOf l .present) ≡ 256
 unfolding tableOf
-table-present-length l = from-long 0 emptyTable l empty-long .0
+table-present-length l = all-long emptyTable (goodRows rowTests (λ q. q .symbol) 0 l) empty-long .0
 
 pub table-rows-length : (l : List Quote) → length (tableOf l .rows) ≡ 256
 unfolding tableOf
-table-rows-length l = from-long 0 emptyTable l empty-long .1
+table-rows-length l = all-long emptyTable (goodRows rowTests (λ q. q .symbol) 0 l) empty-long .1
 
--- ---- at most 256 rows ascend
+-- ---- at most 256 rows ascend, so no row after the 257th counts
 
-most-by : (n : ℕ) (t u v : Table) → (n ≡ 0 → u ≡ v) → unlessDrawn n u (faulted t n) ≡ unlessDrawn n v (faulted t n)
-most-by zero t u v e = e refl
-most-by (suc n) t u v e = refl
-
--- at most k rows ascend from a bound of 256 - k on, so the row after them draws a number
-from-most : (least : ℕ) (t : Table) (l : List Quote) (k : ℕ) → 256 ≤ least + k → tableFrom least t (take (suc k) l) ≡ tableFrom least t l
-unfolding tableFrom
-from-most least t [] k h = refl
-from-most least t (q ∷ l) zero h =
-    most-by (drawn (rowTests least q)) t (putRow t q) (tableFrom (q .symbol + 1) (putRow t q) l)
-    (λ e. let a = row-ascends least q e in absurd (omega (arith, a .low, a .high)))
-from-most least t (q ∷ l) (suc k) h =
-    most-by (drawn (rowTests least q)) t (tableFrom (q .symbol + 1) (putRow t q) (take (suc k) l)) (tableFrom (q .symbol + 1) (putRow t q) l)
-    (λ e.
-    let a = row-ascends least q e in
-    from-most (q .symbol + 1) (putRow t q) l k (omega (arith, a .low)))
-
--- no row after the 257th counts
 pub table-most : (l : List Quote) → tableOf (take 257 l) ≡ tableOf l
 unfolding tableOf
-table-most l = from-most 0 emptyTable l 256 (omega arith)
+table-most l =
+    ap₂ (λ (k : List Quote) (n : ℕ). faulted (foldl putRow emptyTable k) n)
+    (most-good rowTests (λ q. q .symbol) quote-laws l)
+    (most-drew rowTests (λ q. q .symbol) quote-laws l)
+
+-- ---- the loop of `ReadTable::of`: the table so far is that of the rows so far
+
+pub put-more : (l m : List Quote) (q : Quote) (t : Table) → m ≡ l ++ (q ∷ []) → t ≡ foldl putRow emptyTable l → putRow t q ≡ foldl putRow emptyTable m
+put-more l m q t e p = ap (λ (u : Table). putRow u q) p ∙ sym (foldl-append putRow emptyTable l (q ∷ [])) ∙ sym (ap (foldl putRow emptyTable) e)
+
+-- where the loop is left, it is the table of the rows
+pub table-read : (rows : List Quote) (n fault i : ℕ) (t : Table) → t ≡ foldl putRow emptyTable (take i rows) → RowsRead rowTests (λ q. q .symbol) rows n fault i → faulted t fault ≡ tableOf (take n rows)
+unfolding tableOf
+table-read rows n fault i t e r =
+    ap₂ (λ (u : Table) (k : ℕ). faulted u k) (e ∙ ap (foldl putRow emptyTable) (r .good)) (r .fault-is)
 
 -- ---- the row for a symbol
 
@@ -148,15 +125,12 @@ module _ (t : Table) (q : Quote) (n : ℕ) where
       rw (row-below (q .symbol + 1) l n d (omega arith)) (put-same s h same)
   row-by l s h d false e = ap (λ (o : Option Quote). given (rowFor l n) o some) (put-other (eqb-false (q .symbol) n e))
 
-from-row : (least : ℕ) (t : Table) (l : List Quote) (n : ℕ) → Long t → drawn (tableTests least l) ≡ 0 → rowAt (tableFrom least t l) n ≡ given (rowFor l n) (rowAt t n) some
-unfolding tableFrom
-from-row least t [] n s e = refl
-from-row least t (q ∷ l) n s e =
+all-rows : (least : ℕ) (t : Table) (l : List Quote) (n : ℕ) → Long t → drawn (tableTests least l) ≡ 0 → rowAt (foldl putRow t l) n ≡ given (rowFor l n) (rowAt t n) some
+all-rows least t [] n s e = refl
+all-rows least t (q ∷ l) n s e =
     let d = rows-none least q l e in
     let a = row-ascends least q (d .0) in
-    ap (λ (u : Table). rowAt u n) (from-put least t q l (d .0))
-    ∙ from-row (q .symbol + 1) (putRow t q) l n (put-long t q s) (d .1)
-    ∙ row-by t q n l s (a .high) (d .1) (eqb (q .symbol) n) refl
+    all-rows (q .symbol + 1) (putRow t q) l n (put-long t q s) (d .1) ∙ row-by t q n l s (a .high) (d .1) (eqb (q .symbol) n) refl
 
 -- nothing is present in the empty table
 none-present : (k n : ℕ) → getD (replicate k false) n false ≡ false
@@ -181,6 +155,19 @@ given-none (some q) = refl
 pub table-row : (l : List Quote) → drawn (tableTests 0 l) ≡ 0 → (n : ℕ) → rowAt (tableOf l) n ≡ rowFor l n
 unfolding tableOf
 table-row l e n =
-    from-row 0 emptyTable l n empty-long e
+    ap (λ (k : List Quote). rowAt (foldl putRow emptyTable k) n) (good-all rowTests (λ q. q .symbol) quote-laws 0 l e)
+    ∙ all-rows 0 emptyTable l n empty-long e
     ∙ ap (λ (o : Option Quote). given (rowFor l n) o some) (none-empty n)
     ∙ given-none (rowFor l n)
+
+-- ---- the row as code reads it: `has_row` and the rows at the symbol's place modulo 256
+
+listed-by : (t : Table) (s : ℕ) (b : Bool) → ltb s 256 ≡ b →
+    rowIf (cond b (getD (t .present) (s % 256) false) false) (getD (t .rows) (s % 256) noQuote)
+    ≡ cond b (cond (getD (t .present) s false) (some (getD (t .rows) s noQuote)) none) none
+listed-by t s true e = rw (mod-eq-of-lt (ltb-true s 256 e))
+listed-by t s false e = refl
+
+-- it is the table's row for the symbol
+pub row-listed : (t : Table) (s : ℕ) → rowIf (cond (ltb s 256) (getD (t .present) (s % 256) false) false) (getD (t .rows) (s % 256) noQuote) ≡ rowAt t s
+row-listed t s = listed-by t s (ltb s 256) refl

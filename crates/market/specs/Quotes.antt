@@ -1,15 +1,16 @@
 -- Quotes and tables: document 01, section 2, and the supplier's 1, 2 and 3. Definitions only.
-use Prim.Native.Nat.{ℕ, _+_}
-use mathlib.Core.Bool.{Bool, true, false, not, _&&_, cond}
-use mathlib.Core.List.{List, [], _∷_, _++_}
+use Prim.Native.Nat.{ℕ}
+use mathlib.Core.Bool.{Bool, true, false, _&&_, cond}
+use mathlib.Core.List.{List, [], _∷_, foldl}
 use mathlib.Core.Option.{Option, none, some}
 use lib.Dec.{ltb, eqb}
 use lib.IntN.{pos}
 use lib.Ieee.{Float, nan, lt}
 use lib.Ieee.Scale.{finite}
 use lib.ListN.{getD, set, replicate}
-use Rattle.market.specs.Numbers.{Test, _draws_, drawn, unlessDrawn}
+use Rattle.market.specs.Faults.{Test, drawn}
 use Rattle.market.specs.Orders.{zero64}
+use Rattle.market.specs.Rows.{supplierTests, rowsTests, goodRows}
 use Rattle.market.specs.declared.quote.Quote.{Quote}
 use Rattle.market.specs.declared.table.Table.{Table}
 
@@ -24,18 +25,13 @@ noQuote = record { symbol = 0; bid = nan; ask = nan; date = pos 0 }
 abbrev pub isPrice : Float → Bool
 isPrice x = finite x && lt zero64 x
 
--- supplier, per row: 1 symbol above 255; 2 bid or ask not finite or not above zero; 3 row not ascending.
--- `least` is the least symbol that ascends: 0 for the first row, then one more than the symbol of the row before
+-- a row of quotes: 2 bid or ask not finite or not above zero
 abbrev pub rowTests : ℕ → Quote → List Test
-rowTests least q =
-    (ltb 255 (q .symbol) draws 1) ∷
-    (not (isPrice (q .bid) && isPrice (q .ask)) draws 2) ∷
-    (ltb (q .symbol) least draws 3) ∷ []
+rowTests least q = supplierTests least (q .symbol) (isPrice (q .bid) && isPrice (q .ask))
 
 -- the rows in order
 abbrev pub tableTests : ℕ → List Quote → List Test
-tableTests least [] = []
-tableTests least (q ∷ l) = rowTests least q ++ tableTests (q .symbol + 1) l
+tableTests least l = rowsTests rowTests (λ q. q .symbol) least l
 
 -- the row for a symbol
 abbrev pub rowFor : List Quote → ℕ → Option Quote
@@ -55,14 +51,8 @@ abbrev pub faulted : Table → ℕ → Table
 faulted t n = record { present = t .present; rows = t .rows; fault = n }
 
 -- the rows are put in up to the first that draws a number, which the table keeps
-unfoldable pub tableFrom : ℕ → Table → List Quote → Table
-tableFrom least t [] = t
-tableFrom least t (q ∷ l) =
-    let n = drawn (rowTests least q) in
-    unlessDrawn n (tableFrom (q .symbol + 1) (putRow t q) l) (faulted t n)
-
 unfoldable pub tableOf : List Quote → Table
-tableOf l = tableFrom 0 emptyTable l
+tableOf l = faulted (foldl putRow emptyTable (goodRows rowTests (λ q. q .symbol) 0 l)) (drawn (tableTests 0 l))
 
 -- the row that a table has for a symbol
 abbrev pub rowAt : Table → ℕ → Option Quote

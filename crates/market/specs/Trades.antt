@@ -16,15 +16,6 @@ use Rattle.market.specs.declared.trade.Fill.the-variants.{Traded, Rests}
 abbrev pub blankTrade : Trade
 blankTrade = record { symbol = 0; typ = Buy; value = zero64; quantity = zero64; date = pos 0 }
 
--- the kinds that trade on any quote
-abbrev pub isMarket : OrderType → Bool
-isMarket MarketSell = true
-isMarket MarketBuy = true
-isMarket LimitSell = false
-isMarket LimitBuy = false
-isMarket StopSell = false
-isMarket StopBuy = false
-
 -- the kinds that wait for a rise of the quote to their price
 abbrev pub rises : OrderType → Bool
 rises MarketSell = false

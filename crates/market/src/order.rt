@@ -1,8 +1,8 @@
 // Orders, and the numbers that their own fields draw.
 ghost use mathlib.Core.Path.{_≡_};
 ghost use Rattle.market.specs.declared.order.OrderType.the-variants.{MarketSell, MarketBuy, LimitSell, LimitBuy, StopSell, StopBuy};
-ghost use Rattle.market.specs.Numbers.{drawn};
-ghost use Rattle.market.specs.Orders.{marketOrder, pricedOrder, isSell, orderTests};
+ghost use Rattle.market.specs.Faults.{drawn};
+ghost use Rattle.market.specs.Orders.{marketOrder, blankOrder, pricedOrder, isSell, isMarket, orderTests};
 
 pub enum OrderType {
     MarketSell,
@@ -25,7 +25,7 @@ pub struct Order {
 // The order, with 0 where it was taken or the number that it drew.
 pub struct OrderEvent {
     pub order: Order,
-    pub number: u32,
+    pub fault: u32,
 }
 
 impl Order {
@@ -65,6 +65,13 @@ impl Order {
         Order::market(OrderType::MarketSell, symbol, shares)
     }
 
+    // A row that holds no order.
+    pub fn blank() -> Order
+        ensures { λ r. ⌜ r ≡ blankOrder ⌝ }
+    {
+        Order::market_sell(0, 0.0)
+    }
+
     pub fn stop_buy(symbol: u32, shares: f64, price: f64) -> Order
         ensures { λ r. ⌜ r ≡ pricedOrder StopBuy symbol shares price ⌝ }
     {
@@ -99,6 +106,20 @@ impl Order {
             OrderType::LimitSell => true,
             OrderType::LimitBuy => false,
             OrderType::StopSell => true,
+            OrderType::StopBuy => false,
+        }
+    }
+
+    pub fn is_market(self) -> bool
+        ensures { λ r. ⌜ r ≡ isMarket (self .kind) ⌝ }
+    {
+        let k = self.kind;
+        match k {
+            OrderType::MarketSell => true,
+            OrderType::MarketBuy => true,
+            OrderType::LimitSell => false,
+            OrderType::LimitBuy => false,
+            OrderType::StopSell => false,
             OrderType::StopBuy => false,
         }
     }

@@ -1,6 +1,6 @@
 // Quotes: the rows of a table, and the numbers that a row draws.
 ghost use mathlib.Core.Path.{_≡_};
-ghost use Rattle.market.specs.Numbers.{drawn};
+ghost use Rattle.market.specs.Faults.{drawn};
 ghost use Rattle.market.specs.Quotes.{blankQuote, isPrice, rowTests};
 
 pub struct Quote {

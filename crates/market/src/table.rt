@@ -1,5 +1,7 @@
 // A table of quotes by symbol, made of rows that ascend.
 ghost use mathlib.Core.Path.{_≡_};
+ghost use mathlib.Core.Bool.{false, cond};
+ghost use lib.Dec.{ltb};
 ghost use lib.ListN.{take};
 ghost use Rattle.market.specs.Quotes.{emptyTable, tableOf};
 use crate::quote::Quote;
@@ -16,6 +18,13 @@ pub struct Table {
 // take one need not test its number again.
 pub struct ReadTable {
     table: Table,
+}
+
+// Has a table a row for this symbol, where `present` is what it has at the symbol's place?
+pub fn has_row(symbol: u32, present: bool) -> bool
+    ensures { λ r. ⌜ r ≡ cond (ltb symbol 256) present false ⌝ }
+{
+    if symbol < 256 { present } else { false }
 }
 
 impl Table {

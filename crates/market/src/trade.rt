@@ -2,7 +2,7 @@
 ghost use mathlib.Core.Path.{_≡_};
 ghost use mathlib.Core.Bool.{cond};
 ghost use Rattle.market.specs.Orders.{isSell};
-ghost use Rattle.market.specs.Trades.{blankTrade, isMarket, rises, meetsRule, tradeOf, rowIf, tradeOn, tradeIn};
+ghost use Rattle.market.specs.Trades.{blankTrade, rises, meetsRule, tradeOf, rowIf, tradeOn, tradeIn};
 use crate::order::Order;
 use crate::order::OrderType;
 use crate::quote::Quote;
@@ -24,19 +24,6 @@ pub struct Trade {
 pub enum Fill {
     Traded(Trade),
     Rests,
-}
-
-fn is_market(k: OrderType) -> bool
-    ensures { λ r. ⌜ r ≡ isMarket k ⌝ }
-{
-    match k {
-        OrderType::MarketSell => true,
-        OrderType::MarketBuy => true,
-        OrderType::LimitSell => false,
-        OrderType::LimitBuy => false,
-        OrderType::StopSell => false,
-        OrderType::StopBuy => false,
-    }
 }
 
 // Does a limit or stop order wait for the quote to rise to its price? If not, for it to fall.
@@ -65,11 +52,11 @@ fn price_at(o: Order, q: Quote) -> f64
 fn meets_rule(o: Order, q: Quote) -> bool
     ensures { λ r. ⌜ r ≡ meetsRule o q ⌝ }
 {
-    let k = o.kind;
-    if is_market(k) {
+    if o.is_market() {
         return true;
     }
     let at = price_at(o, q);
+    let k = o.kind;
     if rises(k) {
         return if o.priced { o.price <= at } else { true };
     }

@@ -1,11 +1,19 @@
-// Weights of a model portfolio, and the numbers that a row of them draws.
+// Weights of a model portfolio, and the numbers that rows of them draw.
 ghost use mathlib.Core.Path.{_≡_};
-ghost use Rattle.market.specs.Numbers.{drawn};
-ghost use Rattle.market.specs.Weights.{weightTests};
+ghost use Rattle.market.specs.Faults.{drawn};
+ghost use Rattle.market.specs.Weights.{weightTests, weightsOf};
 
 pub struct Weight {
     pub symbol: u32,
     pub weight: f64,
+}
+
+// Weights by ascending symbol: the first `count` rows; `fault` is the number that the first bad row
+// drew, or 0. Its fields are private, so only reading rows makes one.
+pub struct Weights {
+    rows: [Weight; 257],
+    count: usize,
+    fault: u32,
 }
 
 impl Weight {
@@ -20,5 +28,53 @@ impl Weight {
             return 2;
         }
         if self.symbol < least { 3 } else { 0 }
+    }
+}
+
+impl Weights {
+    // The weights of the first `n` rows. At most 256 rows ascend, so the 257th draws a number.
+    pub fn of(rows: [Weight; 257], n: usize) -> Weights
+        ensures { λ r. ⌜ r ≡ weightsOf rows n ⌝ }
+    {
+        let mut fault: u32 = 0;
+        let mut least: u32 = 0;
+        let mut i: usize = 0;
+        while i < 257 {
+            if i >= n {
+                break;
+            }
+            let w = rows[i];
+            fault = w.fault(least);
+            if fault != 0 {
+                break;
+            }
+            least = w.symbol + 1;
+            i = i + 1;
+        }
+        Weights {
+            rows: rows,
+            count: i,
+            fault: fault,
+        }
+    }
+
+    // The rows that were read; those from `count` on do not count.
+    pub fn rows(self) -> [Weight; 257]
+        ensures { λ r. ⌜ r ≡ self .rows ⌝ }
+    {
+        self.rows
+    }
+
+    pub fn count(self) -> usize
+        ensures { λ r. ⌜ r ≡ self .count ⌝ }
+    {
+        self.count
+    }
+
+    // The number that the rows drew, or 0.
+    pub fn fault(self) -> u32
+        ensures { λ r. ⌜ r ≡ self .fault ⌝ }
+    {
+        self.fault
     }
 }

@@ -11,11 +11,10 @@ use borrow.Author.Tests.{ltb-true, ltb-false, lt-ltb, le-ltb}
 use Rattle.lists.specs.Lists.{gather, each, given, All}
 use Rattle.lists.proofs.Each.{length-each, AllFrom, all-append, all-at, all-each, all-map, each-all}
 use Rattle.market.specs.declared.quote.Quote.{Quote}
-use Rattle.market.specs.declared.trade.Trade.{Trade}
-use Rattle.orders.specs.Orders.{Taken, deleted, Fate, resting, ended, Entry, Orders, noOrders, endedBy, tradeEnd, inTurn, fresh}
+use Rattle.orders.specs.Orders.{Taken, Entry, Orders, noOrders, endedBy, inTurn, fresh}
 use Rattle.orders.specs.Claim.{Calls, takenIn, rowFrom, howMany, Within, OneRowEach, tradeIn, endIn, fateOf, booksOf, waitOn, BookedBy, sinceFrom, rowsIn, logOf, takenOver, Placed, Lived}
-use Rattle.orders.proofs.Shape.{ended-stays, movedBy, rowNow, Shape}
-use Rattle.orders.proofs.Fates.{Apart, fate-last, no-deletion, life}
+use Rattle.orders.proofs.Shape.{movedBy, rowNow, Shape}
+use Rattle.orders.proofs.Fates.{Apart, fate-last, life}
 use Rattle.orders.proofs.OneRow.{no-rows, one-more}
 use Rattle.orders.proofs.Within.{at-low, at-left, at-right, at-map, within-left, within-right, within-turn, how-many-append, how-many-turn}
 

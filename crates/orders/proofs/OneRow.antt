@@ -6,13 +6,13 @@ use mathlib.Core.Path.{_≡_, refl, _∙_, sym, ap, ap₂, subst}
 use mathlib.Core.List.{List, [], _∷_, _++_, map}
 use mathlib.Core.Option.{Option, none, some}
 use lib.ListN.{length, getElem?, length-append}
-use Rattle.lists.specs.Lists.{gather, each, holds}
+use Rattle.lists.specs.Lists.{gather, each}
 use Rattle.market.specs.declared.trade.Trade.{Trade}
-use Rattle.orders.specs.Orders.{Taken, End, traded, deleted, Fate, resting, ended, Entry, Orders, endedBy, tradeEnd, fresh}
+use Rattle.orders.specs.Orders.{Taken, traded, deleted, Fate, resting, ended, Entry, Orders, endedBy, tradeEnd, fresh}
 use Rattle.orders.specs.Claim.{Calls, rowFrom, Within, TradedAs, OneRowEach, tradeIn, endIn, booksOf}
 use Rattle.orders.proofs.Shape.{ended-stays, movedBy, rowNow, Shape}
 use Rattle.orders.proofs.Fates.{Apart, no-deletion}
-use Rattle.orders.proofs.Within.{at-low, at-left, at-right, at-either, at-each, each-at, at-mapped, within-left, within-right}
+use Rattle.orders.proofs.Within.{at-left, at-right, at-either, at-each, each-at, at-mapped, within-left, within-right}
 
 -- at the start there are no rows, and nothing has traded
 pub no-rows : OneRowEach [] []

@@ -8,7 +8,7 @@ use native.Mathlib.Omega.{arith}
 use lib.ListN.{length, take, set, replicate, length-set, length-replicate}
 use lib.Seq.{length-take-le, take-suc-set}
 use Rattle.lists.specs.Lists.{gather, given}
-use Rattle.broker.proofs.Symbols.{rest, rest-start, rest-cons, rest-end}
+use Rattle.portfolio.proofs.Symbols.{rest, rest-start, rest-cons, rest-end}
 use Rattle.reads.specs.Rows.{rowsAt, rowsOf, Keeps}
 
 -- the first n rows of the array are those of the symbols below i: with the rows of the symbols that are left they are all

@@ -8,7 +8,7 @@ use lib.ListN.{length, take, set, getD, length-map, List·getD-map}
 use lib.Seq.{paste, paste-zero, length-paste}
 use Rattle.lists.specs.Lists.{gather, given}
 use Rattle.rules.specs.Values.{symbols}
-use Rattle.walks.proofs.Pastes.{paste-front}
+use Rattle.slices.proofs.Pastes.{paste-front}
 use Rattle.reads.specs.Rows.{rowsAt, rowsOf, Keeps}
 
 -- ---- f of each row

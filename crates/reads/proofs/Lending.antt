@@ -13,10 +13,10 @@ use mir.Syntax.{Body, Home, Opd, Name, valueLocal, assign, place, rvOpd, copy, i
 use denote.Slice.{sliceTy}
 use Rattle.broker.specs.declared.state.UistBroker.{UistBroker}
 use Rattle.lent.proofs.UistRows.{uist-broker}
-use Rattle.walks.proofs.Walk as Walk
-use Rattle.walks.proofs.Walk.{Kin, R, ty, ptrTo, mutTy, pV, rV, rA, pMutS, pNum, rNum, Base, same, hasV, makeV, freeV, hasA, freeA, to, fr, gn, part, mut-len, lent-len, drop, sets, copies, units, begins, over, forgets, relends, joins, back, returns, Callee, Knows, _&_, no-more, mut-slice, by-val, by-num, by-lit, by-mut-slice, calls, Contract, callee, Task, Derives, Owes, Runs}
-use Rattle.walks.proofs.Walk.{_≡_, refl, _∙_, ap, ℕ, _≤_, arith, false, List, [], _∷_, length, take, Ty, w64, named, erased, mut, field, tyInt, tyUnit, tyArray, Sc, sInt, sUnit, lease}
-use Rattle.walks.proofs.Store as Store
+use Rattle.slices.proofs.Derivation as Derivation
+use Rattle.slices.proofs.Derivation.{Kin, R, ty, ptrTo, mutTy, pV, rV, rA, pMutS, pNum, rNum, Base, same, hasV, makeV, freeV, hasA, freeA, to, fr, gn, part, mut-len, lent-len, drop, sets, copies, units, begins, over, forgets, relends, joins, back, returns, Knows, _&_, no-more, mut-slice, by-val, by-num, by-lit, by-mut-slice, calls, Contract, callee, Task, Derives, Owes, Runs}
+use Rattle.slices.proofs.Derivation.{_≡_, refl, _∙_, ap, ℕ, arith, false, List, [], _∷_, take, Ty, w64, named, erased, mut, field, tyInt, tyUnit, tyArray, Sc, sInt, sUnit, lease}
+use Rattle.slices.proofs.Store as Store
 use Rattle.reads.specs.Rows.{Keeps}
 use Rattle.reads.specs.Answers.{readOf, AnswersList}
 use Rattle.reads.proofs.Answering.{list-fits, list-answers}
@@ -123,13 +123,13 @@ module _ (x : Read) where
       calls (callee collects (x .collect)) (kn .0) [] (by-val 1 (hasV uist-broker) refl & no-more) 3 gn tt refl (
       calls (callee counts (x .count)) (kn .1) [] (by-val 3 (hasV l) refl & no-more) 5 gn tt refl (
       sets 6 (part 2 (field 1 ∷ []) (mut-len s (named 0) 0) refl) gn (to U) (λ u. refl) (λ u. tt) (
-      calls (callee reads readKey) (kn .2) [] (by-val 1 (hasV uist-broker) refl & by-num 5 Walk.int refl & by-num 6 Walk.int refl & no-more) 4 gn tt refl (
+      calls (callee reads readKey) (kn .2) [] (by-val 1 (hasV uist-broker) refl & by-num 5 Derivation.int refl & by-num 6 Derivation.int refl & no-more) 4 gn tt refl (
       begins 1 (units 11) (
       relends s 0 1 2 8 (mutTy s 0) τ same gn tt refl refl refl (λ i j. tt) (
       joins s 1 8 9 τ (part 2 (field 1 ∷ []) (lent-len s (named 0) 0 1 (lease (κs .0) (qs .0))) refl) same gn refl refl (λ i j k. tt) (
       calls (callee rows-of (x .rows-in)) (kn .3) [] (by-val 3 (hasV l) refl & no-more) 10 gn tt refl (
       calls (callee written writtenKey) (kn .4) [] (by-val 4 (hasV list-read) refl & no-more) 5 (fr U) tt refl (
-      calls (callee (Store.contract s N) (x .store)) (kn .5) (1 ∷ []) (by-mut-slice 9 1 τ mut-slice refl & by-lit 0 tt & by-val 10 (hasA s N) refl & by-num 5 Walk.int refl & no-more) 7 gn (tt, tt) refl (
+      calls (callee (Store.contract s N) (x .store)) (kn .5) (1 ∷ []) (by-mut-slice 9 1 τ mut-slice refl & by-lit 0 tt & by-val 10 (hasA s N) refl & by-num 5 Derivation.int refl & no-more) 7 gn (tt, tt) refl (
       over 1 refl (
       back s 0 1 9 2 (mutTy s 0) τ (lease (κs .0) (qs .0)) same same refl refl (
       forgets 1 refl (
@@ -171,4 +171,4 @@ module _ (x : Read) where
       )
 
   pub runs : (o : Base) → Kn o → Runs goal o
-  runs o kn = Walk.runs goal derived asked o kn
+  runs o kn = Derivation.runs goal derived asked o kn

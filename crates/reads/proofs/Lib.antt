@@ -2,7 +2,7 @@
 -- * Collecting.antt: the loops that collect a broker's rows by value; Copying.antt: the loop that copies their symbols.
 -- * Answering.antt: from the rows by value to what is stated of a lent list.
 -- * RowTypes.antt has a line for each struct that is lent, passed or answered.
--- * Lending.antt is the proof, by hand with the steps of the crate `walks`, of a read to a lent list of structs, for any row;
+-- * Lending.antt is the proof, by hand with the steps of the crate `slices`, of a read to a lent list of structs, for any row;
 --   Public.antt has a record for each of the four. The proofs of other crates cite their contracts as `Lending.contract Public.holdings`.
 pub mod Collecting
 pub mod Answering

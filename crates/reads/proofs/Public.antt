@@ -1,6 +1,6 @@
 -- The reads to lent lists of structs, each by its rows and the functions that collect, count and store them. Assumes nothing.
 use Prim.Native.Nat.{min}
-use Rattle.broker.specs.State.{moneyOf}
+use Rattle.portfolio.specs.State.{moneyOf}
 use Rattle.lent.proofs.Rows.{quote}
 use Rattle.lent.proofs.UistRows.{trade-costs}
 use Rattle.reads.specs.Rows.{holdingRows, pendingRows, quoteRows, costRows}

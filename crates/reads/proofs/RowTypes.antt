@@ -12,7 +12,7 @@ use Rattle.reads.proofs.collected.QuoteList as QuL
 use Rattle.reads.proofs.collected.QuoteList.Laws as QuL′
 use Rattle.reads.proofs.uist.ListRead as Re
 use Rattle.reads.proofs.uist.ListRead.Laws as Re′
-use Rattle.walks.proofs.Walk.{Kin, struct}
+use Rattle.slices.proofs.Derivation.{Kin, struct}
 
 abbrev pub holding : Kin
 holding = struct Ho.the-type Ho′.the-laws Ho′.the-copy Ho′.the-plain (record { symbol = 0; quantity = zero64 }) tt
@@ -27,4 +27,4 @@ abbrev pub quote-list : Kin
 quote-list = struct QuL.the-type QuL′.the-laws QuL′.the-copy QuL′.the-plain (record { rows = []; count = 0 }) tt
 
 abbrev pub list-read : Kin
-list-read = struct Re.the-type Re′.the-laws Re′.the-copy Re′.the-plain (record { count = 0; number = 0 }) tt
+list-read = struct Re.the-type Re′.the-laws Re′.the-copy Re′.the-plain (record { count = 0; fault = 0 }) tt

@@ -1,7 +1,7 @@
 // A broker's lists by value: the rows stand in the first places of an array, by ascending symbol, and
 // are counted.
 ghost use Prim.Native.Nat.{min};
-ghost use Rattle.broker.specs.State.{moneyOf};
+ghost use Rattle.portfolio.specs.State.{moneyOf};
 ghost use Rattle.reads.specs.Rows.{Keeps, holdingRows, pendingRows, quoteRows, costRows};
 use broker::state::UistBroker;
 use costs::TradeCosts;

@@ -2,7 +2,7 @@
 // 15 where the lent list is shorter than the rows; it then writes none.
 ghost use mathlib.Core.Path.{_≡_};
 ghost use Prim.Native.Nat.{min};
-ghost use Rattle.broker.specs.State.{moneyOf};
+ghost use Rattle.portfolio.specs.State.{moneyOf};
 ghost use Rattle.reads.specs.Rows.{positionRows, holdingRows, pendingRows, quoteRows, costRows};
 ghost use Rattle.reads.specs.Answers.{readOf, AnswersList};
 use crate::collected;
@@ -15,78 +15,13 @@ use crate::store::store_quotes;
 use broker::state::UistBroker;
 use costs::Cost;
 use costs::TradeCosts;
+use market::fault;
 use market::quote::Quote;
 
 // How many rows were written, and the number drawn, or 0.
 pub struct ListRead {
     pub count: usize,
-    pub number: u32,
-}
-
-// The answer for `count` rows and a lent list of `room` entries.
-pub(crate) fn list_read(broker: UistBroker, count: usize, room: usize) -> ListRead
-    ensures { λ r. ⌜ r ≡ readOf broker count room ⌝ }
-{
-    let exchange = broker.exchange;
-    let counts = exchange.counts;
-    if counts.broken() {
-        return ListRead {
-            count: 0,
-            number: 16,
-        };
-    }
-    if room < count {
-        return ListRead {
-            count: 0,
-            number: 15,
-        };
-    }
-    ListRead {
-        count: count,
-        number: 0,
-    }
-}
-
-pub(crate) fn written(read: ListRead) -> usize
-    ensures { λ r. ⌜ r ≡ read .count ⌝ }
-{
-    read.count
-}
-
-pub(crate) fn holdings_in(x: HoldingList) -> [Holding; 256]
-    ensures { λ r. ⌜ r ≡ x .rows ⌝ }
-{
-    x.rows
-}
-
-pub(crate) fn holding_count(x: HoldingList) -> usize
-    ensures { λ r. ⌜ r ≡ x .count ⌝ }
-{
-    x.count
-}
-
-pub(crate) fn quotes_in(x: QuoteList) -> [Quote; 256]
-    ensures { λ r. ⌜ r ≡ x .rows ⌝ }
-{
-    x.rows
-}
-
-pub(crate) fn quote_count(x: QuoteList) -> usize
-    ensures { λ r. ⌜ r ≡ x .count ⌝ }
-{
-    x.count
-}
-
-pub(crate) fn costs_in(x: TradeCosts) -> [Cost; 16]
-    ensures { λ r. ⌜ r ≡ x .list ⌝ }
-{
-    x.list
-}
-
-pub(crate) fn cost_count(x: TradeCosts) -> usize
-    ensures { λ r. ⌜ r ≡ min (x .count) 16 ⌝ }
-{
-    if x.count < 16 { x.count } else { 16 }
+    pub fault: u32,
 }
 
 // The symbols that are held.
@@ -143,4 +78,57 @@ pub fn get_trade_costs(broker: UistBroker, costs: &mut [Cost]) -> ListRead
     let read = list_read(broker, cost_count(x), costs.len());
     store_costs(costs, 0, costs_in(x), written(read));
     read
+}
+
+// The answer for `count` rows and a lent list of `room` entries.
+pub(crate) fn list_read(broker: UistBroker, count: usize, room: usize) -> ListRead
+    ensures { λ r. ⌜ r ≡ readOf broker count room ⌝ }
+{
+    let fault = broker.lender_fault(count, room);
+    ListRead {
+        count: fault::count_unless(fault, count),
+        fault: fault,
+    }
+}
+
+pub(crate) fn written(read: ListRead) -> usize
+    ensures { λ r. ⌜ r ≡ read .count ⌝ }
+{
+    read.count
+}
+
+pub(crate) fn holdings_in(x: HoldingList) -> [Holding; 256]
+    ensures { λ r. ⌜ r ≡ x .rows ⌝ }
+{
+    x.rows
+}
+
+pub(crate) fn holding_count(x: HoldingList) -> usize
+    ensures { λ r. ⌜ r ≡ x .count ⌝ }
+{
+    x.count
+}
+
+pub(crate) fn quotes_in(x: QuoteList) -> [Quote; 256]
+    ensures { λ r. ⌜ r ≡ x .rows ⌝ }
+{
+    x.rows
+}
+
+pub(crate) fn quote_count(x: QuoteList) -> usize
+    ensures { λ r. ⌜ r ≡ x .count ⌝ }
+{
+    x.count
+}
+
+pub(crate) fn costs_in(x: TradeCosts) -> [Cost; 16]
+    ensures { λ r. ⌜ r ≡ x .list ⌝ }
+{
+    x.list
+}
+
+pub(crate) fn cost_count(x: TradeCosts) -> usize
+    ensures { λ r. ⌜ r ≡ min (x .count) 16 ⌝ }
+{
+    if x.count < 16 { x.count } else { 16 }
 }

@@ -17,11 +17,11 @@ fn run_before(i: usize) {
     }
     if i > 1 {
         if is_large(i - 1) {
-            scenario::run::large();
+            scenario::run::with_large_log();
             return;
         }
     }
-    scenario::run::small();
+    scenario::run::with_small_log();
 }
 
 fn main() {

@@ -1,101 +1,127 @@
--- Orders, quotes, weights and costs as words: the last five rows of the table of words in docs/SCENARIOS.md. Each is `ok` where
--- the word has the row's number of parts and each part is of its form. Definitions only.
+-- Orders, quotes, weights and costs as words: the last five rows of the table of words in docs/SCENARIOS.md. A word is a row where
+-- it has the row's number of parts and each part is of its form. Definitions only.
 use Prim.Native.Nat.{ℕ}
-use mathlib.Core.Bool.{Bool, true, false, _&&_, cond}
+use mathlib.Core.Bool.{cond}
 use mathlib.Core.List.{List}
+use mathlib.Core.Option.{Option, none, some, Option·elim}
 use lib.Dec.{eqb}
-use lib.Ieee.{Float, binary64, ofBits}
+use lib.Ieee.{Float}
 use lib.ListN.{length}
+use Rattle.market.specs.Orders.{marketOrder, pricedOrder}
+use Rattle.market.specs.declared.order.Order.{Order}
 use Rattle.market.specs.declared.order.OrderType.{OrderType}
 use Rattle.market.specs.declared.order.OrderType.the-variants.{MarketSell, MarketBuy, LimitSell, LimitBuy, StopSell, StopBuy}
+use Rattle.market.specs.declared.quote.Quote.{Quote}
+use Rattle.market.specs.declared.weight.Weight.{Weight}
 use Rattle.costs.specs.declared.BrokerCost.{BrokerCost}
 use Rattle.costs.specs.declared.BrokerCost.the-variants.{PerShare, PctOfValue, Flat}
-use Rattle.words.specs.declared.number.SymbolRead.{SymbolRead}
-use Rattle.words.specs.declared.number.SignedRead.{SignedRead}
-use Rattle.words.specs.declared.number.BitsRead.{BitsRead}
 use Rattle.words.specs.Numbers.{symbolOf, signedOf, floatOf}
 use Rattle.words.specs.Words.{split, partOf, sameBytes, ascii}
 use Rattle.rows.specs.declared.KindRead.{KindRead}
+use Rattle.rows.specs.declared.KindRead.the-variants.{Of as Kind, Malformed as NoKind}
 use Rattle.rows.specs.declared.PriceRead.{PriceRead}
+use Rattle.rows.specs.declared.PriceRead.the-variants.{Of as Price, Unpriced, Malformed as NoPrice}
 use Rattle.rows.specs.declared.OrderRead.{OrderRead}
+use Rattle.rows.specs.declared.OrderRead.the-variants.{Of as OrderRow, Malformed as NoOrder}
 use Rattle.rows.specs.declared.QuoteRead.{QuoteRead}
+use Rattle.rows.specs.declared.QuoteRead.the-variants.{Of as QuoteRow, Malformed as NoQuote}
 use Rattle.rows.specs.declared.WeightRead.{WeightRead}
+use Rattle.rows.specs.declared.WeightRead.the-variants.{Of as WeightRow, Malformed as NoWeight}
 use Rattle.rows.specs.declared.CostRead.{CostRead}
+use Rattle.rows.specs.declared.CostRead.the-variants.{Of as CostRow, Malformed as NoCost}
 
--- has the word n parts?
-abbrev pub hasParts : List ℕ → ℕ → Bool
-hasParts w n = eqb (length (split 58 w)) n
+-- what is made of a word that has n parts
+abbrev pub ofParts : {A : Type 0} → ℕ → List ℕ → Option A → Option A
+ofParts n w x = cond (eqb (length (split 58 w)) n) x none
+
+-- what is made of a part that is of its form
+abbrev pub ofPart : {A B : Type 0} → Option A → (A → Option B) → Option B
+ofPart o f = Option·elim o none f
 
 -- KIND: market, limit or stop, buy or sell
-abbrev pub kindIf : Bool → OrderType → KindRead
-kindIf ok kind = record { kind = kind; ok = ok }
-
-unfoldable pub kindOf : List ℕ → KindRead
+unfoldable pub kindOf : List ℕ → Option OrderType
 kindOf s =
-    cond (sameBytes s (ascii "mb")) (kindIf true MarketBuy)
-    (cond (sameBytes s (ascii "ms")) (kindIf true MarketSell)
-    (cond (sameBytes s (ascii "lb")) (kindIf true LimitBuy)
-    (cond (sameBytes s (ascii "ls")) (kindIf true LimitSell)
-    (cond (sameBytes s (ascii "sb")) (kindIf true StopBuy)
-    (cond (sameBytes s (ascii "ss")) (kindIf true StopSell)
-    (kindIf false MarketSell))))))
+    cond (sameBytes s (ascii "mb")) (some MarketBuy)
+    (cond (sameBytes s (ascii "ms")) (some MarketSell)
+    (cond (sameBytes s (ascii "lb")) (some LimitBuy)
+    (cond (sameBytes s (ascii "ls")) (some LimitSell)
+    (cond (sameBytes s (ascii "sb")) (some StopBuy)
+    (cond (sameBytes s (ascii "ss")) (some StopSell)
+    none)))))
 
 -- PRICE: a FLOAT, or `-` for none
-abbrev pub pricedOf : BitsRead → PriceRead
-pricedOf x = record { value = x .value; priced = true; ok = x .ok }
+abbrev pub pricedAt : Option Float → Option (Option Float)
+pricedAt none = none
+pricedAt (some x) = some (some x)
 
-abbrev pub unpriced : PriceRead
-unpriced = record { value = ofBits binary64 0; priced = false; ok = true }
-
-unfoldable pub priceOf : List ℕ → PriceRead
-priceOf s = cond (sameBytes s (ascii "-")) unpriced (pricedOf (floatOf s))
+unfoldable pub priceOf : List ℕ → Option (Option Float)
+priceOf s = cond (sameBytes s (ascii "-")) (some none) (pricedAt (floatOf s))
 
 -- ORDER: KIND:SYMBOL:SHARES:PRICE
-abbrev pub orderFrom : Bool → KindRead → SymbolRead → BitsRead → PriceRead → OrderRead
-orderFrom four kind symbol shares price =
-    record {
-      order = record { kind = kind .kind; priced = price .priced; symbol = symbol .value; shares = shares .value; price = price .value };
-      ok = four && kind .ok && symbol .ok && shares .ok && price .ok;
-    }
+abbrev pub orderAt : OrderType → ℕ → Float → Option Float → Order
+orderAt kind symbol shares none = marketOrder kind symbol shares
+orderAt kind symbol shares (some price) = pricedOrder kind symbol shares price
 
-unfoldable pub orderOf : List ℕ → OrderRead
-orderOf w = orderFrom (hasParts w 4) (kindOf (partOf w 0)) (symbolOf (partOf w 1)) (floatOf (partOf w 2)) (priceOf (partOf w 3))
+unfoldable pub orderOf : List ℕ → Option Order
+orderOf w =
+    ofParts 4 w
+    (ofPart (kindOf (partOf w 0)) (λ kind.
+    ofPart (symbolOf (partOf w 1)) (λ symbol.
+    ofPart (floatOf (partOf w 2)) (λ shares.
+    ofPart (priceOf (partOf w 3)) (λ price.
+    some (orderAt kind symbol shares price))))))
 
 -- QUOTE: SYMBOL:BID:ASK:DATE
-abbrev pub quoteFrom : Bool → SymbolRead → BitsRead → BitsRead → SignedRead → QuoteRead
-quoteFrom four symbol bid ask date =
-    record {
-      quote = record { symbol = symbol .value; bid = bid .value; ask = ask .value; date = date .value };
-      ok = four && symbol .ok && bid .ok && ask .ok && date .ok;
-    }
-
-unfoldable pub quoteOf : List ℕ → QuoteRead
-quoteOf w = quoteFrom (hasParts w 4) (symbolOf (partOf w 0)) (floatOf (partOf w 1)) (floatOf (partOf w 2)) (signedOf (partOf w 3))
+unfoldable pub quoteOf : List ℕ → Option Quote
+quoteOf w =
+    ofParts 4 w
+    (ofPart (symbolOf (partOf w 0)) (λ symbol.
+    ofPart (floatOf (partOf w 1)) (λ bid.
+    ofPart (floatOf (partOf w 2)) (λ ask.
+    ofPart (signedOf (partOf w 3)) (λ date.
+    some (record { symbol = symbol; bid = bid; ask = ask; date = date }))))))
 
 -- WEIGHT: SYMBOL:FLOAT
-abbrev pub weightFrom : Bool → SymbolRead → BitsRead → WeightRead
-weightFrom two symbol x =
-    record {
-      weight = record { symbol = symbol .value; weight = x .value };
-      ok = two && symbol .ok && x .ok;
-    }
-
-unfoldable pub weightOf : List ℕ → WeightRead
-weightOf w = weightFrom (hasParts w 2) (symbolOf (partOf w 0)) (floatOf (partOf w 1))
+unfoldable pub weightOf : List ℕ → Option Weight
+weightOf w =
+    ofParts 2 w
+    (ofPart (symbolOf (partOf w 0)) (λ symbol.
+    ofPart (floatOf (partOf w 1)) (λ weight.
+    some (record { symbol = symbol; weight = weight }))))
 
 -- COST: per_share:FLOAT, pct_of_value:FLOAT or flat:FLOAT
-abbrev pub costIf : Bool → BrokerCost → CostRead
-costIf ok cost = record { cost = cost; ok = ok }
+unfoldable pub costNamed : List ℕ → Float → Option BrokerCost
+costNamed s x =
+    cond (sameBytes s (ascii "per_share")) (some (PerShare x))
+    (cond (sameBytes s (ascii "pct_of_value")) (some (PctOfValue x))
+    (cond (sameBytes s (ascii "flat")) (some (Flat x))
+    none))
 
-unfoldable pub costNamed : List ℕ → Bool → Float → CostRead
-costNamed s ok x =
-    cond (sameBytes s (ascii "per_share")) (costIf ok (PerShare x))
-    (cond (sameBytes s (ascii "pct_of_value")) (costIf ok (PctOfValue x))
-    (cond (sameBytes s (ascii "flat")) (costIf ok (Flat x))
-    (costIf false (Flat x))))
+unfoldable pub costOf : List ℕ → Option BrokerCost
+costOf w = ofParts 2 w (ofPart (floatOf (partOf w 1)) (λ x. costNamed (partOf w 0) x))
 
-abbrev pub costFrom : Bool → List ℕ → BitsRead → CostRead
-costFrom two name x = costNamed name (two && x .ok) (x .value)
+-- what the program's answers say
+abbrev pub kindIn : KindRead → Option OrderType
+kindIn (Kind k) = some k
+kindIn NoKind = none
 
-unfoldable pub costOf : List ℕ → CostRead
-costOf w = costFrom (hasParts w 2) (partOf w 0) (floatOf (partOf w 1))
+abbrev pub priceIn : PriceRead → Option (Option Float)
+priceIn (Price x) = some (some x)
+priceIn Unpriced = some none
+priceIn NoPrice = none
+
+abbrev pub orderIn : OrderRead → Option Order
+orderIn (OrderRow o) = some o
+orderIn NoOrder = none
+
+abbrev pub quoteIn : QuoteRead → Option Quote
+quoteIn (QuoteRow q) = some q
+quoteIn NoQuote = none
+
+abbrev pub weightIn : WeightRead → Option Weight
+weightIn (WeightRow w) = some w
+weightIn NoWeight = none
+
+abbrev pub costIn : CostRead → Option BrokerCost
+costIn (CostRow c) = some c
+costIn NoCost = none

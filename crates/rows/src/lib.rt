@@ -1,55 +1,55 @@
 // Orders, quotes, weights and costs as words.
 ghost use mathlib.Core.Path.{_≡_};
-ghost use mathlib.Core.Bool.{true};
-ghost use Rattle.words.specs.Numbers.{symbolOf, signedOf, floatOf};
+ghost use Rattle.words.specs.Numbers.{symbolIn, symbolOf, signedIn, signedOf, floatIn, floatOf};
 ghost use Rattle.words.specs.Words.{partOf};
-ghost use Rattle.rows.specs.Rows.{kindIf, kindOf, priceOf, costNamed, orderOf, quoteOf, weightOf, costOf};
+ghost use Rattle.rows.specs.Rows.{kindIn, kindOf, priceIn, priceOf, orderIn, orderOf, quoteIn, quoteOf, weightIn, weightOf, costIn, costNamed, costOf};
 use costs::BrokerCost;
 use market::order::Order;
 use market::order::OrderType;
 use market::quote::Quote;
 use market::weight::Weight;
 use words::number;
-use words::number::BitsRead;
+use words::number::FloatRead;
 use words::number::SignedRead;
 use words::number::SymbolRead;
 use words::word;
 
-pub struct OrderRead {
-    pub order: Order,
-    pub ok: bool,
+// The row that a word is, or a word that is none.
+pub enum OrderRead {
+    Of(Order),
+    Malformed,
 }
 
-pub struct QuoteRead {
-    pub quote: Quote,
-    pub ok: bool,
+pub enum QuoteRead {
+    Of(Quote),
+    Malformed,
 }
 
-pub struct WeightRead {
-    pub weight: Weight,
-    pub ok: bool,
+pub enum WeightRead {
+    Of(Weight),
+    Malformed,
 }
 
-pub struct CostRead {
-    pub cost: BrokerCost,
-    pub ok: bool,
+pub enum CostRead {
+    Of(BrokerCost),
+    Malformed,
 }
 
-pub struct KindRead {
-    pub kind: OrderType,
-    pub ok: bool,
+enum KindRead {
+    Of(OrderType),
+    Malformed,
 }
 
-// A price, where there is one.
-pub struct PriceRead {
-    pub value: f64,
-    pub priced: bool,
-    pub ok: bool,
+// A price, or the `-` of an order that has none.
+enum PriceRead {
+    Of(f64),
+    Unpriced,
+    Malformed,
 }
 
 // The part behind `k` colons, as a symbol.
 fn symbol_in(w: &[u8], k: usize) -> SymbolRead
-    ensures { λ r. ⌜ r ≡ symbolOf (partOf (now (w .entry)) k) ⌝ }
+    ensures { λ r. ⌜ symbolIn r ≡ symbolOf (partOf (now (w .entry)) k) ⌝ }
 {
     let p = word::part(w, k);
     let from = p.from;
@@ -58,8 +58,8 @@ fn symbol_in(w: &[u8], k: usize) -> SymbolRead
 }
 
 // The part behind `k` colons, as a float.
-fn float_in(w: &[u8], k: usize) -> BitsRead
-    ensures { λ r. ⌜ r ≡ floatOf (partOf (now (w .entry)) k) ⌝ }
+fn float_in(w: &[u8], k: usize) -> FloatRead
+    ensures { λ r. ⌜ floatIn r ≡ floatOf (partOf (now (w .entry)) k) ⌝ }
 {
     let p = word::part(w, k);
     let from = p.from;
@@ -69,7 +69,7 @@ fn float_in(w: &[u8], k: usize) -> BitsRead
 
 // The part behind `k` colons, as a date.
 fn date_in(w: &[u8], k: usize) -> SignedRead
-    ensures { λ r. ⌜ r ≡ signedOf (partOf (now (w .entry)) k) ⌝ }
+    ensures { λ r. ⌜ signedIn r ≡ signedOf (partOf (now (w .entry)) k) ⌝ }
 {
     let p = word::part(w, k);
     let from = p.from;
@@ -77,46 +77,34 @@ fn date_in(w: &[u8], k: usize) -> SignedRead
     number::signed(&w[from..to])
 }
 
-fn known(kind: OrderType) -> KindRead
-    ensures { λ r. ⌜ r ≡ kindIf true kind ⌝ }
-{
-    KindRead {
-        kind: kind,
-        ok: true,
-    }
-}
-
 // `mb`, `ms`, `lb`, `ls`, `sb` or `ss`.
 fn kind(s: &[u8]) -> KindRead
-    ensures { λ r. ⌜ r ≡ kindOf (now (s .entry)) ⌝ }
+    ensures { λ r. ⌜ kindIn r ≡ kindOf (now (s .entry)) ⌝ }
 {
     if word::is_name(s, b"mb") {
-        return known(OrderType::MarketBuy);
+        return KindRead::Of(OrderType::MarketBuy);
     }
     if word::is_name(s, b"ms") {
-        return known(OrderType::MarketSell);
+        return KindRead::Of(OrderType::MarketSell);
     }
     if word::is_name(s, b"lb") {
-        return known(OrderType::LimitBuy);
+        return KindRead::Of(OrderType::LimitBuy);
     }
     if word::is_name(s, b"ls") {
-        return known(OrderType::LimitSell);
+        return KindRead::Of(OrderType::LimitSell);
     }
     if word::is_name(s, b"sb") {
-        return known(OrderType::StopBuy);
+        return KindRead::Of(OrderType::StopBuy);
     }
     if word::is_name(s, b"ss") {
-        return known(OrderType::StopSell);
+        return KindRead::Of(OrderType::StopSell);
     }
-    KindRead {
-        kind: OrderType::MarketSell,
-        ok: false,
-    }
+    KindRead::Malformed
 }
 
 // The part behind `k` colons, as a kind.
 fn kind_in(w: &[u8], k: usize) -> KindRead
-    ensures { λ r. ⌜ r ≡ kindOf (partOf (now (w .entry)) k) ⌝ }
+    ensures { λ r. ⌜ kindIn r ≡ kindOf (partOf (now (w .entry)) k) ⌝ }
 {
     let p = word::part(w, k);
     let from = p.from;
@@ -126,26 +114,20 @@ fn kind_in(w: &[u8], k: usize) -> KindRead
 
 // A float, or `-` for no price.
 fn price(s: &[u8]) -> PriceRead
-    ensures { λ r. ⌜ r ≡ priceOf (now (s .entry)) ⌝ }
+    ensures { λ r. ⌜ priceIn r ≡ priceOf (now (s .entry)) ⌝ }
 {
     if word::is_name(s, b"-") {
-        return PriceRead {
-            value: 0.0,
-            priced: false,
-            ok: true,
-        };
+        return PriceRead::Unpriced;
     }
-    let x = number::float(s);
-    PriceRead {
-        value: x.value,
-        priced: true,
-        ok: x.ok,
+    match number::float(s) {
+        FloatRead::Of(x) => PriceRead::Of(x),
+        FloatRead::Malformed => PriceRead::Malformed,
     }
 }
 
 // The part behind `k` colons, as a price.
 fn price_in(w: &[u8], k: usize) -> PriceRead
-    ensures { λ r. ⌜ r ≡ priceOf (partOf (now (w .entry)) k) ⌝ }
+    ensures { λ r. ⌜ priceIn r ≡ priceOf (partOf (now (w .entry)) k) ⌝ }
 {
     let p = word::part(w, k);
     let from = p.from;
@@ -155,98 +137,113 @@ fn price_in(w: &[u8], k: usize) -> PriceRead
 
 // KIND:SYMBOL:SHARES:PRICE
 pub fn order(w: &[u8]) -> OrderRead
-    ensures { λ r. ⌜ r ≡ orderOf (now (w .entry)) ⌝ }
+    ensures { λ r. ⌜ orderIn r ≡ orderOf (now (w .entry)) ⌝ }
 {
-    let n = word::parts(w);
-    let k = kind_in(w, 0);
-    let symbol = symbol_in(w, 1);
-    let shares = float_in(w, 2);
-    let price = price_in(w, 3);
-    let kind = k.kind;
-    OrderRead {
-        order: Order {
+    if word::parts(w) != 4 {
+        return OrderRead::Malformed;
+    }
+    let KindRead::Of(kind) = kind_in(w, 0) else {
+        return OrderRead::Malformed;
+    };
+    let SymbolRead::Of(symbol) = symbol_in(w, 1) else {
+        return OrderRead::Malformed;
+    };
+    let FloatRead::Of(shares) = float_in(w, 2) else {
+        return OrderRead::Malformed;
+    };
+    match price_in(w, 3) {
+        PriceRead::Of(price) => OrderRead::Of(Order {
             kind: kind,
-            priced: price.priced,
-            symbol: symbol.value,
-            shares: shares.value,
-            price: price.value,
-        },
-        ok: (n == 4) & k.ok & symbol.ok & shares.ok & price.ok,
+            priced: true,
+            symbol: symbol,
+            shares: shares,
+            price: price,
+        }),
+        PriceRead::Unpriced => OrderRead::Of(Order {
+            kind: kind,
+            priced: false,
+            symbol: symbol,
+            shares: shares,
+            price: 0.0,
+        }),
+        PriceRead::Malformed => OrderRead::Malformed,
     }
 }
 
 // SYMBOL:BID:ASK:DATE
 pub fn quote(w: &[u8]) -> QuoteRead
-    ensures { λ r. ⌜ r ≡ quoteOf (now (w .entry)) ⌝ }
+    ensures { λ r. ⌜ quoteIn r ≡ quoteOf (now (w .entry)) ⌝ }
 {
-    let n = word::parts(w);
-    let symbol = symbol_in(w, 0);
-    let bid = float_in(w, 1);
-    let ask = float_in(w, 2);
-    let date = date_in(w, 3);
-    QuoteRead {
-        quote: Quote {
-            symbol: symbol.value,
-            bid: bid.value,
-            ask: ask.value,
-            date: date.value,
-        },
-        ok: (n == 4) & symbol.ok & bid.ok & ask.ok & date.ok,
+    if word::parts(w) != 4 {
+        return QuoteRead::Malformed;
     }
+    let SymbolRead::Of(symbol) = symbol_in(w, 0) else {
+        return QuoteRead::Malformed;
+    };
+    let FloatRead::Of(bid) = float_in(w, 1) else {
+        return QuoteRead::Malformed;
+    };
+    let FloatRead::Of(ask) = float_in(w, 2) else {
+        return QuoteRead::Malformed;
+    };
+    let SignedRead::Of(date) = date_in(w, 3) else {
+        return QuoteRead::Malformed;
+    };
+    QuoteRead::Of(Quote {
+        symbol: symbol,
+        bid: bid,
+        ask: ask,
+        date: date,
+    })
 }
 
 // SYMBOL:FLOAT
 pub fn weight(w: &[u8]) -> WeightRead
-    ensures { λ r. ⌜ r ≡ weightOf (now (w .entry)) ⌝ }
+    ensures { λ r. ⌜ weightIn r ≡ weightOf (now (w .entry)) ⌝ }
 {
-    let n = word::parts(w);
-    let symbol = symbol_in(w, 0);
-    let x = float_in(w, 1);
-    WeightRead {
-        weight: Weight {
-            symbol: symbol.value,
-            weight: x.value,
-        },
-        ok: (n == 2) & symbol.ok & x.ok,
+    if word::parts(w) != 2 {
+        return WeightRead::Malformed;
     }
+    let SymbolRead::Of(symbol) = symbol_in(w, 0) else {
+        return WeightRead::Malformed;
+    };
+    let FloatRead::Of(weight) = float_in(w, 1) else {
+        return WeightRead::Malformed;
+    };
+    WeightRead::Of(Weight {
+        symbol: symbol,
+        weight: weight,
+    })
 }
 
 // The cost of this name and amount.
-fn cost_named(name: &[u8], ok: bool, x: f64) -> CostRead
-    ensures { λ r. ⌜ r ≡ costNamed (now (name .entry)) ok x ⌝ }
+fn cost_named(name: &[u8], x: f64) -> CostRead
+    ensures { λ r. ⌜ costIn r ≡ costNamed (now (name .entry)) x ⌝ }
 {
     if word::is_name(name, b"per_share") {
-        return CostRead {
-            cost: BrokerCost::per_share(x),
-            ok: ok,
-        };
+        return CostRead::Of(BrokerCost::PerShare(x));
     }
     if word::is_name(name, b"pct_of_value") {
-        return CostRead {
-            cost: BrokerCost::pct_of_value(x),
-            ok: ok,
-        };
+        return CostRead::Of(BrokerCost::PctOfValue(x));
     }
     if word::is_name(name, b"flat") {
-        return CostRead {
-            cost: BrokerCost::flat(x),
-            ok: ok,
-        };
+        return CostRead::Of(BrokerCost::Flat(x));
     }
-    CostRead {
-        cost: BrokerCost::flat(x),
-        ok: false,
-    }
+    CostRead::Malformed
 }
 
 // per_share:FLOAT, pct_of_value:FLOAT or flat:FLOAT
 pub fn cost(w: &[u8]) -> CostRead
-    ensures { λ r. ⌜ r ≡ costOf (now (w .entry)) ⌝ }
+    ensures { λ r. ⌜ costIn r ≡ costOf (now (w .entry)) ⌝ }
 {
-    let n = word::parts(w);
+    if word::parts(w) != 2 {
+        return CostRead::Malformed;
+    }
+    let FloatRead::Of(x) = float_in(w, 1) else {
+        return CostRead::Malformed;
+    };
     let p = word::part(w, 0);
     let from = p.from;
     let to = p.to;
-    let x = float_in(w, 1);
-    cost_named(&w[from..to], (n == 2) & x.ok, x.value)
+    cost_named(&w[from..to], x)
 }

@@ -12,7 +12,7 @@ use borrow.Author.Tests.{eqb-true, eq-eqb}
 use Rattle.market.specs.Orders.{zero64}
 use Rattle.rules.specs.Amounts.{atMost, isZero}
 use Rattle.rules.specs.Money.{Money}
-use Rattle.rules.specs.Liquidation.{walk, ifSpent}
+use Rattle.rules.specs.Liquidation.{salesFrom, ifSpent}
 
 or-right : (a b : Bool) → (a || b) ≡ false → b ≡ false
 or-right true b e = cc
@@ -42,6 +42,6 @@ rest-not-zero (fin s m d) e =
 
 -- a held position that has no latest quote has the value 0 in the walk; where that is not at or below the rest, no orders are found
 pub unquoted-fails : (m : Money) (s : ℕ) (l : List ℕ) (h r : Float) → m .held s ≡ some h → m .latest s ≡ none → atMost zero64 r ≡ false →
-    ifSpent (walk m (s ∷ l) r) ≡ none
-unfolding walk
+    ifSpent (salesFrom m (s ∷ l) r) ≡ none
+unfolding salesFrom
 unquoted-fails m s l h r eh eq t = rw (eh, eq, t, rest-not-zero r t)

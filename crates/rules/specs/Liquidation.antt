@@ -29,13 +29,13 @@ lastSale none s rest = record { orders = []; rest = rest }
 lastSale (some q) s rest = record { orders = marketOrder MarketSell s (divided rest (ceilOf (q .bid))) ∷ []; rest = zero64 }
 
 -- positions are walked by symbol; a value (absent: 0) at or below the rest is sold whole and subtracted
-unfoldable pub walk : Money → List ℕ → Float → Sales
-walk m [] rest = record { orders = []; rest = rest }
-walk m (s ∷ l) rest =
+unfoldable pub salesFrom : Money → List ℕ → Float → Sales
+salesFrom m [] rest = record { orders = []; rest = rest }
+salesFrom m (s ∷ l) rest =
     let v = orZero (valueOf m s) in
     given (m .held s)
-    (walk m l rest)
-    (λ h. cond (atMost v rest) (selling s h (walk m l (minus rest v))) (lastSale (m .latest s) s rest))
+    (salesFrom m l rest)
+    (λ h. cond (atMost v rest) (selling s h (salesFrom m l (minus rest v))) (lastSale (m .latest s) s rest))
 
 -- with rest 0 the orders are sent; otherwise fail
 abbrev pub ifSpent : Sales → Option (List Order)
@@ -43,7 +43,7 @@ ifSpent w = cond (isZero (w .rest)) (some (w .orders)) none
 
 -- the orders of a liquidation: none where the amount exceeds `get_liquidation_value`, or where the walk leaves a rest
 unfoldable pub salesFor : Money → Float → Option (List Order)
-salesFor m amount = cond (below (liquidationValue m) amount) none (ifSpent (walk m symbols amount))
+salesFor m amount = cond (below (liquidationValue m) amount) none (ifSpent (salesFrom m symbols amount))
 
 -- failing debits the amount from cash unless the amount exceeds cash
 unfoldable pub debitedBy : Float → Money → Money

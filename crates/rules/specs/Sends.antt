@@ -4,30 +4,20 @@ use mathlib.Core.List.{List, [], _∷_, _++_}
 use mathlib.Core.Option.{Option, none, some}
 use lib.Ieee.{Float}
 use Rattle.lists.specs.Lists.{given}
-use Rattle.market.specs.Numbers.{Test, _draws_}
-use Rattle.market.specs.Orders.{orderTests, isSell}
-use Rattle.market.specs.declared.order.OrderType.{OrderType}
-use Rattle.market.specs.declared.order.OrderType.the-variants.{MarketSell, MarketBuy, LimitSell, LimitBuy, StopSell, StopBuy}
+use Rattle.market.specs.Faults.{Test, _draws_}
+use Rattle.market.specs.Orders.{orderTests, isSell, isMarket}
 use Rattle.market.specs.declared.order.Order.{Order}
 use Rattle.market.specs.declared.quote.Quote.{Quote}
 use Rattle.rules.specs.Amounts.{times, below, atMost, isZero}
 use Rattle.rules.specs.Money.{Money}
 
-abbrev pub isMarket : OrderType → Bool
-isMarket MarketSell = true
-isMarket MarketBuy = true
-isMarket LimitSell = false
-isMarket LimitBuy = false
-isMarket StopSell = false
-isMarket StopBuy = false
-
 -- a buy passes if cash > shares × ask
-abbrev pub poor : Float → Order → Option Quote → Bool
-poor cash o quote = not (isSell (o .kind)) && given quote false (λ q. not (below (times (o .shares) (q .ask)) cash))
+abbrev pub exceedsCash : Float → Order → Option Quote → Bool
+exceedsCash cash o quote = not (isSell (o .kind)) && given quote false (λ q. not (below (times (o .shares) (q .ask)) cash))
 
 -- a sale of a held symbol passes if holding >= shares; a sale of an unheld symbol passes
-abbrev pub short : Order → Option Float → Bool
-short o holding = isSell (o .kind) && given holding false (λ h. not (atMost (o .shares) h))
+abbrev pub exceedsHolding : Order → Option Float → Bool
+exceedsHolding o holding = isSell (o .kind) && given holding false (λ h. not (atMost (o .shares) h))
 
 abbrev pub missing : Option Quote → Bool
 missing none = true
@@ -39,8 +29,8 @@ sendTestsAt failed cash quote holding o =
     (failed draws 4) ∷
     (missing quote draws 5) ∷
     (not (isMarket (o .kind)) draws 6) ∷
-    (poor cash o quote draws 7) ∷
-    (short o holding draws 8) ∷
+    (exceedsCash cash o quote draws 7) ∷
+    (exceedsHolding o holding draws 8) ∷
     (isZero (o .shares) draws 9) ∷ []
 
 -- 1, 2, then the above, then the tests of room, 10 and 11

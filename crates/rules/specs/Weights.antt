@@ -2,9 +2,9 @@
 use Prim.Native.Nat.{ℕ}
 use mathlib.Core.Bool.{Bool, true, false, cond}
 use mathlib.Core.List.{List, [], _∷_, _++_}
-use mathlib.Core.Option.{Option, none, some}
 use lib.Ieee.{Float}
 use Rattle.lists.specs.Lists.{given}
+use Rattle.market.specs.Faults.{Test, _draws_, drawn, unlessDrawn}
 use Rattle.market.specs.Orders.{zero64, marketOrder}
 use Rattle.market.specs.declared.order.OrderType.the-variants.{MarketSell, MarketBuy}
 use Rattle.market.specs.declared.order.Order.{Order}
@@ -43,6 +43,19 @@ wanted m v (w ∷ l) =
     let d = difference m v w in
     cond (isZero d) [] (given (m .latest (w .symbol)) [] (λ q. orderFor (w .symbol) (sharesFor (m .costs) d q)) ++ wanted m v l)
 
--- sales listed first; 13 where the liquidation value is zero
-unfoldable pub planOf : Money → List Weight → Option (List Order)
-planOf m l = let v = liquidationValue m in cond (isZero v) none (some (sellsFirst (wanted m v l)))
+-- what the walk comes to: the number drawn, or 0, and the orders
+pub record Plan : Type 0 where
+  pub fault : ℕ
+  pub orders : List Order
+
+-- 13 where the liquidation value is zero
+abbrev pub planTests : Float → List Test
+planTests v = (isZero v draws 13) ∷ []
+
+-- no order is listed where a number is drawn
+abbrev pub planAs : ℕ → List Order → Plan
+planAs n l = record { fault = n; orders = unlessDrawn n l [] }
+
+-- sales listed first
+unfoldable pub planOf : Money → List Weight → Plan
+planOf m l = let v = liquidationValue m in planAs (drawn (planTests v)) (sellsFirst (wanted m v l))

@@ -2,63 +2,7 @@
 use mathlib.Core.Path.{_≡_}
 use prog.Routine.{Env}
 use borrow.Fn.World.{World}
-use Rattle.walks.proofs.Walk.{Callee, Knows, under}
-use Rattle.scenario.proofs.run.is_check.Kinds as is-check-Kinds
-use Rattle.scenario.proofs.run.is_check.Reads as is-check-Reads
-use Rattle.scenario.proofs.run.is_check.Symbol as is-check-Symbol
-use Rattle.scenario.proofs.run.is_check.Met as is-check-Met
-use Rattle.scenario.proofs.run.lists_of.Kinds as lists-of-Kinds
-use Rattle.scenario.proofs.run.lists_of.Reads as lists-of-Reads
-use Rattle.scenario.proofs.run.lists_of.Symbol as lists-of-Symbol
-use Rattle.scenario.proofs.run.lists_of.Met as lists-of-Met
-use Rattle.scenario.proofs.run.check_done.Kinds as check-done-Kinds
-use Rattle.scenario.proofs.run.check_done.Reads as check-done-Reads
-use Rattle.scenario.proofs.run.check_done.Symbol as check-done-Symbol
-use Rattle.scenario.proofs.run.check_done.Met as check-done-Met
-use Rattle.scenario.proofs.run.is_update.Kinds as is-update-Kinds
-use Rattle.scenario.proofs.run.is_update.Reads as is-update-Reads
-use Rattle.scenario.proofs.run.is_update.Symbol as is-update-Symbol
-use Rattle.scenario.proofs.run.is_update.Met as is-update-Met
-use Rattle.scenario.proofs.run.update_done.Kinds as update-done-Kinds
-use Rattle.scenario.proofs.run.update_done.Reads as update-done-Reads
-use Rattle.scenario.proofs.run.update_done.Symbol as update-done-Symbol
-use Rattle.scenario.proofs.run.update_done.Met as update-done-Met
-use Rattle.scenario.proofs.run.is_new.Kinds as is-new-Kinds
-use Rattle.scenario.proofs.run.is_new.Reads as is-new-Reads
-use Rattle.scenario.proofs.run.is_new.Symbol as is-new-Symbol
-use Rattle.scenario.proofs.run.is_new.Met as is-new-Met
-use Rattle.scenario.proofs.run.costs_of.Kinds as costs-of-Kinds
-use Rattle.scenario.proofs.run.costs_of.Reads as costs-of-Reads
-use Rattle.scenario.proofs.run.costs_of.Symbol as costs-of-Symbol
-use Rattle.scenario.proofs.run.costs_of.Met as costs-of-Met
-use Rattle.scenario.proofs.run.build_done.Kinds as build-done-Kinds
-use Rattle.scenario.proofs.run.build_done.Reads as build-done-Reads
-use Rattle.scenario.proofs.run.build_done.Symbol as build-done-Symbol
-use Rattle.scenario.proofs.run.build_done.Met as build-done-Met
-use Rattle.scenario.proofs.run.is_basis.Kinds as is-basis-Kinds
-use Rattle.scenario.proofs.run.is_basis.Reads as is-basis-Reads
-use Rattle.scenario.proofs.run.is_basis.Symbol as is-basis-Symbol
-use Rattle.scenario.proofs.run.is_basis.Met as is-basis-Met
-use Rattle.scenario.proofs.run.symbol_in.Kinds as symbol-in-Kinds
-use Rattle.scenario.proofs.run.symbol_in.Reads as symbol-in-Reads
-use Rattle.scenario.proofs.run.symbol_in.Symbol as symbol-in-Symbol
-use Rattle.scenario.proofs.run.symbol_in.Met as symbol-in-Met
-use Rattle.scenario.proofs.run.basis_done.Kinds as basis-done-Kinds
-use Rattle.scenario.proofs.run.basis_done.Reads as basis-done-Reads
-use Rattle.scenario.proofs.run.basis_done.Symbol as basis-done-Symbol
-use Rattle.scenario.proofs.run.basis_done.Met as basis-done-Met
-use Rattle.scenario.proofs.run.is_turnover.Kinds as is-turnover-Kinds
-use Rattle.scenario.proofs.run.is_turnover.Reads as is-turnover-Reads
-use Rattle.scenario.proofs.run.is_turnover.Symbol as is-turnover-Symbol
-use Rattle.scenario.proofs.run.is_turnover.Met as is-turnover-Met
-use Rattle.scenario.proofs.run.turnover_done.Kinds as turnover-done-Kinds
-use Rattle.scenario.proofs.run.turnover_done.Reads as turnover-done-Reads
-use Rattle.scenario.proofs.run.turnover_done.Symbol as turnover-done-Symbol
-use Rattle.scenario.proofs.run.turnover_done.Met as turnover-done-Met
-use Rattle.scenario.proofs.run.other_call.Kinds as other-call-Kinds
-use Rattle.scenario.proofs.run.other_call.Reads as other-call-Reads
-use Rattle.scenario.proofs.run.other_call.Symbol as other-call-Symbol
-use Rattle.scenario.proofs.run.other_call.Met as other-call-Met
+use Rattle.slices.proofs.Derivation.{Callee, Knows, under}
 use Rattle.scenario.proofs.run.started.Kinds as started-Kinds
 use Rattle.scenario.proofs.run.started.Reads as started-Reads
 use Rattle.scenario.proofs.run.started.Symbol as started-Symbol
@@ -103,18 +47,10 @@ use Rattle.scenario.proofs.run.large_rows.Kinds as large-rows-Kinds
 use Rattle.scenario.proofs.run.large_rows.Reads as large-rows-Reads
 use Rattle.scenario.proofs.run.large_rows.Symbol as large-rows-Symbol
 use Rattle.scenario.proofs.run.large_rows.Met as large-rows-Met
-use Rattle.arrays.proofs.clock.now.Kinds as now-Kinds
-use Rattle.arrays.proofs.clock.now.Reads as now-Reads
-use Rattle.arrays.proofs.clock.now.Symbol as now-Symbol
-use Rattle.arrays.proofs.clock.now.Met as now-Met
-use Rattle.scenario.proofs.plain_calls.unchanged.Kinds as unchanged-Kinds
-use Rattle.scenario.proofs.plain_calls.unchanged.Reads as unchanged-Reads
-use Rattle.scenario.proofs.plain_calls.unchanged.Symbol as unchanged-Symbol
-use Rattle.scenario.proofs.plain_calls.unchanged.Met as unchanged-Met
-use Rattle.scenario.proofs.plain_calls.broker_in.Kinds as broker-in-Kinds
-use Rattle.scenario.proofs.plain_calls.broker_in.Reads as broker-in-Reads
-use Rattle.scenario.proofs.plain_calls.broker_in.Symbol as broker-in-Symbol
-use Rattle.scenario.proofs.plain_calls.broker_in.Met as broker-in-Met
+use Rattle.dispatch.proofs.plain_calls.broker_in.Kinds as broker-in-Kinds
+use Rattle.dispatch.proofs.plain_calls.broker_in.Reads as broker-in-Reads
+use Rattle.dispatch.proofs.plain_calls.broker_in.Symbol as broker-in-Symbol
+use Rattle.dispatch.proofs.plain_calls.broker_in.Met as broker-in-Met
 use Rattle.scenario.proofs.view.seen.Kinds as seen-Kinds
 use Rattle.scenario.proofs.view.seen.Reads as seen-Reads
 use Rattle.scenario.proofs.view.seen.Symbol as seen-Symbol
@@ -163,34 +99,34 @@ use Rattle.scenario.proofs.view.after.Kinds as after-Kinds
 use Rattle.scenario.proofs.view.after.Reads as after-Reads
 use Rattle.scenario.proofs.view.after.Symbol as after-Symbol
 use Rattle.scenario.proofs.view.after.Met as after-Met
-use Rattle.scenario.proofs.show.one_trade.Kinds as one-trade-Kinds
-use Rattle.scenario.proofs.show.one_trade.Reads as one-trade-Reads
-use Rattle.scenario.proofs.show.one_trade.Symbol as one-trade-Symbol
-use Rattle.scenario.proofs.show.one_trade.Met as one-trade-Met
-use Rattle.scenario.proofs.show.basis.Kinds as basis-Kinds
-use Rattle.scenario.proofs.show.basis.Reads as basis-Reads
-use Rattle.scenario.proofs.show.basis.Symbol as basis-Symbol
-use Rattle.scenario.proofs.show.basis.Met as basis-Met
-use Rattle.scenario.proofs.show.no_broker.Kinds as no-broker-Kinds
-use Rattle.scenario.proofs.show.no_broker.Reads as no-broker-Reads
-use Rattle.scenario.proofs.show.no_broker.Symbol as no-broker-Symbol
-use Rattle.scenario.proofs.show.no_broker.Met as no-broker-Met
-use Rattle.scenario.proofs.show.money.Kinds as money-Kinds
-use Rattle.scenario.proofs.show.money.Reads as money-Reads
-use Rattle.scenario.proofs.show.money.Symbol as money-Symbol
-use Rattle.scenario.proofs.show.money.Met as money-Met
-use Rattle.scenario.proofs.show.holdings.Kinds as holdings-Kinds
-use Rattle.scenario.proofs.show.holdings.Reads as holdings-Reads
-use Rattle.scenario.proofs.show.holdings.Symbol as holdings-Symbol
-use Rattle.scenario.proofs.show.holdings.Met as holdings-Met
-use Rattle.scenario.proofs.show.trades_head.Kinds as trades-head-Kinds
-use Rattle.scenario.proofs.show.trades_head.Reads as trades-head-Reads
-use Rattle.scenario.proofs.show.trades_head.Symbol as trades-head-Symbol
-use Rattle.scenario.proofs.show.trades_head.Met as trades-head-Met
-use Rattle.scenario.proofs.show.book.Kinds as book-Kinds
-use Rattle.scenario.proofs.show.book.Reads as book-Reads
-use Rattle.scenario.proofs.show.book.Symbol as book-Symbol
-use Rattle.scenario.proofs.show.book.Met as book-Met
+use Rattle.report.proofs.state.one_trade.Kinds as one-trade-Kinds
+use Rattle.report.proofs.state.one_trade.Reads as one-trade-Reads
+use Rattle.report.proofs.state.one_trade.Symbol as one-trade-Symbol
+use Rattle.report.proofs.state.one_trade.Met as one-trade-Met
+use Rattle.report.proofs.state.basis.Kinds as basis-Kinds
+use Rattle.report.proofs.state.basis.Reads as basis-Reads
+use Rattle.report.proofs.state.basis.Symbol as basis-Symbol
+use Rattle.report.proofs.state.basis.Met as basis-Met
+use Rattle.report.proofs.state.no_broker.Kinds as no-broker-Kinds
+use Rattle.report.proofs.state.no_broker.Reads as no-broker-Reads
+use Rattle.report.proofs.state.no_broker.Symbol as no-broker-Symbol
+use Rattle.report.proofs.state.no_broker.Met as no-broker-Met
+use Rattle.report.proofs.state.money.Kinds as money-Kinds
+use Rattle.report.proofs.state.money.Reads as money-Reads
+use Rattle.report.proofs.state.money.Symbol as money-Symbol
+use Rattle.report.proofs.state.money.Met as money-Met
+use Rattle.report.proofs.state.holdings.Kinds as holdings-Kinds
+use Rattle.report.proofs.state.holdings.Reads as holdings-Reads
+use Rattle.report.proofs.state.holdings.Symbol as holdings-Symbol
+use Rattle.report.proofs.state.holdings.Met as holdings-Met
+use Rattle.report.proofs.state.trades_head.Kinds as trades-head-Kinds
+use Rattle.report.proofs.state.trades_head.Reads as trades-head-Reads
+use Rattle.report.proofs.state.trades_head.Symbol as trades-head-Symbol
+use Rattle.report.proofs.state.trades_head.Met as trades-head-Met
+use Rattle.report.proofs.state.book.Kinds as book-Kinds
+use Rattle.report.proofs.state.book.Reads as book-Reads
+use Rattle.report.proofs.state.book.Symbol as book-Symbol
+use Rattle.report.proofs.state.book.Met as book-Met
 use Rattle.text.proofs.input.call_in.Kinds as call-in-Kinds
 use Rattle.text.proofs.input.call_in.Reads as call-in-Reads
 use Rattle.text.proofs.input.call_in.Symbol as call-in-Symbol
@@ -199,90 +135,6 @@ use Rattle.arrays.proofs.at_most.Kinds as at-most-Kinds
 use Rattle.arrays.proofs.at_most.Reads as at-most-Reads
 use Rattle.arrays.proofs.at_most.Symbol as at-most-Symbol
 use Rattle.arrays.proofs.at_most.Met as at-most-Met
-
-abbrev pub is-check : Callee
-is-check = record { n = 0; ps = is-check-Kinds.ps; r = is-check-Kinds.r; Pre = is-check-Reads.Asked; Post = is-check-Reads.Learnt; key = "scenario::run::is_check" }
-
-pub knows-is-check : (w : World) (γ : Env) → γ "scenario::run::is_check" ≡ is-check-Symbol.routine → Knows is-check (under w γ)
-knows-is-check w γ e = is-check-Reads.known w γ "scenario::run::is_check" is-check-Symbol.routine e (is-check-Met.met (w .𝓤) (w .H) (w .𝓜) (w .𝓖) (w .𝓡))
-
-abbrev pub lists-of : Callee
-lists-of = record { n = 0; ps = lists-of-Kinds.ps; r = lists-of-Kinds.r; Pre = lists-of-Reads.Asked; Post = lists-of-Reads.Learnt; key = "scenario::run::lists_of" }
-
-pub knows-lists-of : (w : World) (γ : Env) → γ "scenario::run::lists_of" ≡ lists-of-Symbol.routine → Knows lists-of (under w γ)
-knows-lists-of w γ e = lists-of-Reads.known w γ "scenario::run::lists_of" lists-of-Symbol.routine e (lists-of-Met.met (w .𝓤) (w .H) (w .𝓜) (w .𝓖) (w .𝓡))
-
-abbrev pub check-done : Callee
-check-done = record { n = 0; ps = check-done-Kinds.ps; r = check-done-Kinds.r; Pre = check-done-Reads.Asked; Post = check-done-Reads.Learnt; key = "scenario::run::check_done" }
-
-pub knows-check-done : (w : World) (γ : Env) → γ "scenario::run::check_done" ≡ check-done-Symbol.routine → Knows check-done (under w γ)
-knows-check-done w γ e = check-done-Reads.known w γ "scenario::run::check_done" check-done-Symbol.routine e (check-done-Met.met (w .𝓤) (w .H) (w .𝓜) (w .𝓖) (w .𝓡))
-
-abbrev pub is-update : Callee
-is-update = record { n = 0; ps = is-update-Kinds.ps; r = is-update-Kinds.r; Pre = is-update-Reads.Asked; Post = is-update-Reads.Learnt; key = "scenario::run::is_update" }
-
-pub knows-is-update : (w : World) (γ : Env) → γ "scenario::run::is_update" ≡ is-update-Symbol.routine → Knows is-update (under w γ)
-knows-is-update w γ e = is-update-Reads.known w γ "scenario::run::is_update" is-update-Symbol.routine e (is-update-Met.met (w .𝓤) (w .H) (w .𝓜) (w .𝓖) (w .𝓡))
-
-abbrev pub update-done : Callee
-update-done = record { n = 0; ps = update-done-Kinds.ps; r = update-done-Kinds.r; Pre = update-done-Reads.Asked; Post = update-done-Reads.Learnt; key = "scenario::run::update_done" }
-
-pub knows-update-done : (w : World) (γ : Env) → γ "scenario::run::update_done" ≡ update-done-Symbol.routine → Knows update-done (under w γ)
-knows-update-done w γ e = update-done-Reads.known w γ "scenario::run::update_done" update-done-Symbol.routine e (update-done-Met.met (w .𝓤) (w .H) (w .𝓜) (w .𝓖) (w .𝓡))
-
-abbrev pub is-new : Callee
-is-new = record { n = 0; ps = is-new-Kinds.ps; r = is-new-Kinds.r; Pre = is-new-Reads.Asked; Post = is-new-Reads.Learnt; key = "scenario::run::is_new" }
-
-pub knows-is-new : (w : World) (γ : Env) → γ "scenario::run::is_new" ≡ is-new-Symbol.routine → Knows is-new (under w γ)
-knows-is-new w γ e = is-new-Reads.known w γ "scenario::run::is_new" is-new-Symbol.routine e (is-new-Met.met (w .𝓤) (w .H) (w .𝓜) (w .𝓖) (w .𝓡))
-
-abbrev pub costs-of : Callee
-costs-of = record { n = 0; ps = costs-of-Kinds.ps; r = costs-of-Kinds.r; Pre = costs-of-Reads.Asked; Post = costs-of-Reads.Learnt; key = "scenario::run::costs_of" }
-
-pub knows-costs-of : (w : World) (γ : Env) → γ "scenario::run::costs_of" ≡ costs-of-Symbol.routine → Knows costs-of (under w γ)
-knows-costs-of w γ e = costs-of-Reads.known w γ "scenario::run::costs_of" costs-of-Symbol.routine e (costs-of-Met.met (w .𝓤) (w .H) (w .𝓜) (w .𝓖) (w .𝓡))
-
-abbrev pub build-done : Callee
-build-done = record { n = 0; ps = build-done-Kinds.ps; r = build-done-Kinds.r; Pre = build-done-Reads.Asked; Post = build-done-Reads.Learnt; key = "scenario::run::build_done" }
-
-pub knows-build-done : (w : World) (γ : Env) → γ "scenario::run::build_done" ≡ build-done-Symbol.routine → Knows build-done (under w γ)
-knows-build-done w γ e = build-done-Reads.known w γ "scenario::run::build_done" build-done-Symbol.routine e (build-done-Met.met (w .𝓤) (w .H) (w .𝓜) (w .𝓖) (w .𝓡))
-
-abbrev pub is-basis : Callee
-is-basis = record { n = 0; ps = is-basis-Kinds.ps; r = is-basis-Kinds.r; Pre = is-basis-Reads.Asked; Post = is-basis-Reads.Learnt; key = "scenario::run::is_basis" }
-
-pub knows-is-basis : (w : World) (γ : Env) → γ "scenario::run::is_basis" ≡ is-basis-Symbol.routine → Knows is-basis (under w γ)
-knows-is-basis w γ e = is-basis-Reads.known w γ "scenario::run::is_basis" is-basis-Symbol.routine e (is-basis-Met.met (w .𝓤) (w .H) (w .𝓜) (w .𝓖) (w .𝓡))
-
-abbrev pub symbol-in : Callee
-symbol-in = record { n = 0; ps = symbol-in-Kinds.ps; r = symbol-in-Kinds.r; Pre = symbol-in-Reads.Asked; Post = symbol-in-Reads.Learnt; key = "scenario::run::symbol_in" }
-
-pub knows-symbol-in : (w : World) (γ : Env) → γ "scenario::run::symbol_in" ≡ symbol-in-Symbol.routine → Knows symbol-in (under w γ)
-knows-symbol-in w γ e = symbol-in-Reads.known w γ "scenario::run::symbol_in" symbol-in-Symbol.routine e (symbol-in-Met.met (w .𝓤) (w .H) (w .𝓜) (w .𝓖) (w .𝓡))
-
-abbrev pub basis-done : Callee
-basis-done = record { n = 0; ps = basis-done-Kinds.ps; r = basis-done-Kinds.r; Pre = basis-done-Reads.Asked; Post = basis-done-Reads.Learnt; key = "scenario::run::basis_done" }
-
-pub knows-basis-done : (w : World) (γ : Env) → γ "scenario::run::basis_done" ≡ basis-done-Symbol.routine → Knows basis-done (under w γ)
-knows-basis-done w γ e = basis-done-Reads.known w γ "scenario::run::basis_done" basis-done-Symbol.routine e (basis-done-Met.met (w .𝓤) (w .H) (w .𝓜) (w .𝓖) (w .𝓡))
-
-abbrev pub is-turnover : Callee
-is-turnover = record { n = 0; ps = is-turnover-Kinds.ps; r = is-turnover-Kinds.r; Pre = is-turnover-Reads.Asked; Post = is-turnover-Reads.Learnt; key = "scenario::run::is_turnover" }
-
-pub knows-is-turnover : (w : World) (γ : Env) → γ "scenario::run::is_turnover" ≡ is-turnover-Symbol.routine → Knows is-turnover (under w γ)
-knows-is-turnover w γ e = is-turnover-Reads.known w γ "scenario::run::is_turnover" is-turnover-Symbol.routine e (is-turnover-Met.met (w .𝓤) (w .H) (w .𝓜) (w .𝓖) (w .𝓡))
-
-abbrev pub turnover-done : Callee
-turnover-done = record { n = 0; ps = turnover-done-Kinds.ps; r = turnover-done-Kinds.r; Pre = turnover-done-Reads.Asked; Post = turnover-done-Reads.Learnt; key = "scenario::run::turnover_done" }
-
-pub knows-turnover-done : (w : World) (γ : Env) → γ "scenario::run::turnover_done" ≡ turnover-done-Symbol.routine → Knows turnover-done (under w γ)
-knows-turnover-done w γ e = turnover-done-Reads.known w γ "scenario::run::turnover_done" turnover-done-Symbol.routine e (turnover-done-Met.met (w .𝓤) (w .H) (w .𝓜) (w .𝓖) (w .𝓡))
-
-abbrev pub other-call : Callee
-other-call = record { n = 0; ps = other-call-Kinds.ps; r = other-call-Kinds.r; Pre = other-call-Reads.Asked; Post = other-call-Reads.Learnt; key = "scenario::run::other_call" }
-
-pub knows-other-call : (w : World) (γ : Env) → γ "scenario::run::other_call" ≡ other-call-Symbol.routine → Knows other-call (under w γ)
-knows-other-call w γ e = other-call-Reads.known w γ "scenario::run::other_call" other-call-Symbol.routine e (other-call-Met.met (w .𝓤) (w .H) (w .𝓜) (w .𝓖) (w .𝓡))
 
 abbrev pub started : Callee
 started = record { n = 0; ps = started-Kinds.ps; r = started-Kinds.r; Pre = started-Reads.Asked; Post = started-Reads.Learnt; key = "scenario::run::started" }
@@ -350,23 +202,11 @@ large-rows = record { n = 0; ps = large-rows-Kinds.ps; r = large-rows-Kinds.r; P
 pub knows-large-rows : (w : World) (γ : Env) → γ "scenario::run::large_rows" ≡ large-rows-Symbol.routine → Knows large-rows (under w γ)
 knows-large-rows w γ e = large-rows-Reads.known w γ "scenario::run::large_rows" large-rows-Symbol.routine e (large-rows-Met.met (w .𝓤) (w .H) (w .𝓜) (w .𝓖) (w .𝓡))
 
-abbrev pub now : Callee
-now = record { n = 0; ps = now-Kinds.ps; r = now-Kinds.r; Pre = now-Reads.Asked; Post = now-Reads.Learnt; key = "arrays::clock::now" }
-
-pub knows-now : (w : World) (γ : Env) → γ "arrays::clock::now" ≡ now-Symbol.routine → Knows now (under w γ)
-knows-now w γ e = now-Reads.known w γ "arrays::clock::now" now-Symbol.routine e (now-Met.met (w .𝓤) (w .H) (w .𝓜) (w .𝓖) (w .𝓡))
-
-abbrev pub unchanged : Callee
-unchanged = record { n = 0; ps = unchanged-Kinds.ps; r = unchanged-Kinds.r; Pre = unchanged-Reads.Asked; Post = unchanged-Reads.Learnt; key = "scenario::plain_calls::unchanged" }
-
-pub knows-unchanged : (w : World) (γ : Env) → γ "scenario::plain_calls::unchanged" ≡ unchanged-Symbol.routine → Knows unchanged (under w γ)
-knows-unchanged w γ e = unchanged-Reads.known w γ "scenario::plain_calls::unchanged" unchanged-Symbol.routine e (unchanged-Met.met (w .𝓤) (w .H) (w .𝓜) (w .𝓖) (w .𝓡))
-
 abbrev pub broker-in : Callee
-broker-in = record { n = 0; ps = broker-in-Kinds.ps; r = broker-in-Kinds.r; Pre = broker-in-Reads.Asked; Post = broker-in-Reads.Learnt; key = "scenario::plain_calls::broker_in" }
+broker-in = record { n = 0; ps = broker-in-Kinds.ps; r = broker-in-Kinds.r; Pre = broker-in-Reads.Asked; Post = broker-in-Reads.Learnt; key = "dispatch::plain_calls::broker_in" }
 
-pub knows-broker-in : (w : World) (γ : Env) → γ "scenario::plain_calls::broker_in" ≡ broker-in-Symbol.routine → Knows broker-in (under w γ)
-knows-broker-in w γ e = broker-in-Reads.known w γ "scenario::plain_calls::broker_in" broker-in-Symbol.routine e (broker-in-Met.met (w .𝓤) (w .H) (w .𝓜) (w .𝓖) (w .𝓡))
+pub knows-broker-in : (w : World) (γ : Env) → γ "dispatch::plain_calls::broker_in" ≡ broker-in-Symbol.routine → Knows broker-in (under w γ)
+knows-broker-in w γ e = broker-in-Reads.known w γ "dispatch::plain_calls::broker_in" broker-in-Symbol.routine e (broker-in-Met.met (w .𝓤) (w .H) (w .𝓜) (w .𝓖) (w .𝓡))
 
 abbrev pub seen : Callee
 seen = record { n = 0; ps = seen-Kinds.ps; r = seen-Kinds.r; Pre = seen-Reads.Asked; Post = seen-Reads.Learnt; key = "scenario::view::seen" }
@@ -441,46 +281,46 @@ pub knows-after : (w : World) (γ : Env) → γ "scenario::view::after" ≡ afte
 knows-after w γ e = after-Reads.known w γ "scenario::view::after" after-Symbol.routine e (after-Met.met (w .𝓤) (w .H) (w .𝓜) (w .𝓖) (w .𝓡))
 
 abbrev pub one-trade : Callee
-one-trade = record { n = 0; ps = one-trade-Kinds.ps; r = one-trade-Kinds.r; Pre = one-trade-Reads.Asked; Post = one-trade-Reads.Learnt; key = "scenario::show::one_trade" }
+one-trade = record { n = 0; ps = one-trade-Kinds.ps; r = one-trade-Kinds.r; Pre = one-trade-Reads.Asked; Post = one-trade-Reads.Learnt; key = "report::state::one_trade" }
 
-pub knows-one-trade : (w : World) (γ : Env) → γ "scenario::show::one_trade" ≡ one-trade-Symbol.routine → Knows one-trade (under w γ)
-knows-one-trade w γ e = one-trade-Reads.known w γ "scenario::show::one_trade" one-trade-Symbol.routine e (one-trade-Met.met (w .𝓤) (w .H) (w .𝓜) (w .𝓖) (w .𝓡))
+pub knows-one-trade : (w : World) (γ : Env) → γ "report::state::one_trade" ≡ one-trade-Symbol.routine → Knows one-trade (under w γ)
+knows-one-trade w γ e = one-trade-Reads.known w γ "report::state::one_trade" one-trade-Symbol.routine e (one-trade-Met.met (w .𝓤) (w .H) (w .𝓜) (w .𝓖) (w .𝓡))
 
 abbrev pub basis : Callee
-basis = record { n = 0; ps = basis-Kinds.ps; r = basis-Kinds.r; Pre = basis-Reads.Asked; Post = basis-Reads.Learnt; key = "scenario::show::basis" }
+basis = record { n = 0; ps = basis-Kinds.ps; r = basis-Kinds.r; Pre = basis-Reads.Asked; Post = basis-Reads.Learnt; key = "report::state::basis" }
 
-pub knows-basis : (w : World) (γ : Env) → γ "scenario::show::basis" ≡ basis-Symbol.routine → Knows basis (under w γ)
-knows-basis w γ e = basis-Reads.known w γ "scenario::show::basis" basis-Symbol.routine e (basis-Met.met (w .𝓤) (w .H) (w .𝓜) (w .𝓖) (w .𝓡))
+pub knows-basis : (w : World) (γ : Env) → γ "report::state::basis" ≡ basis-Symbol.routine → Knows basis (under w γ)
+knows-basis w γ e = basis-Reads.known w γ "report::state::basis" basis-Symbol.routine e (basis-Met.met (w .𝓤) (w .H) (w .𝓜) (w .𝓖) (w .𝓡))
 
 abbrev pub no-broker : Callee
-no-broker = record { n = 0; ps = no-broker-Kinds.ps; r = no-broker-Kinds.r; Pre = no-broker-Reads.Asked; Post = no-broker-Reads.Learnt; key = "scenario::show::no_broker" }
+no-broker = record { n = 0; ps = no-broker-Kinds.ps; r = no-broker-Kinds.r; Pre = no-broker-Reads.Asked; Post = no-broker-Reads.Learnt; key = "report::state::no_broker" }
 
-pub knows-no-broker : (w : World) (γ : Env) → γ "scenario::show::no_broker" ≡ no-broker-Symbol.routine → Knows no-broker (under w γ)
-knows-no-broker w γ e = no-broker-Reads.known w γ "scenario::show::no_broker" no-broker-Symbol.routine e (no-broker-Met.met (w .𝓤) (w .H) (w .𝓜) (w .𝓖) (w .𝓡))
+pub knows-no-broker : (w : World) (γ : Env) → γ "report::state::no_broker" ≡ no-broker-Symbol.routine → Knows no-broker (under w γ)
+knows-no-broker w γ e = no-broker-Reads.known w γ "report::state::no_broker" no-broker-Symbol.routine e (no-broker-Met.met (w .𝓤) (w .H) (w .𝓜) (w .𝓖) (w .𝓡))
 
 abbrev pub money : Callee
-money = record { n = 0; ps = money-Kinds.ps; r = money-Kinds.r; Pre = money-Reads.Asked; Post = money-Reads.Learnt; key = "scenario::show::money" }
+money = record { n = 0; ps = money-Kinds.ps; r = money-Kinds.r; Pre = money-Reads.Asked; Post = money-Reads.Learnt; key = "report::state::money" }
 
-pub knows-money : (w : World) (γ : Env) → γ "scenario::show::money" ≡ money-Symbol.routine → Knows money (under w γ)
-knows-money w γ e = money-Reads.known w γ "scenario::show::money" money-Symbol.routine e (money-Met.met (w .𝓤) (w .H) (w .𝓜) (w .𝓖) (w .𝓡))
+pub knows-money : (w : World) (γ : Env) → γ "report::state::money" ≡ money-Symbol.routine → Knows money (under w γ)
+knows-money w γ e = money-Reads.known w γ "report::state::money" money-Symbol.routine e (money-Met.met (w .𝓤) (w .H) (w .𝓜) (w .𝓖) (w .𝓡))
 
 abbrev pub holdings : Callee
-holdings = record { n = 0; ps = holdings-Kinds.ps; r = holdings-Kinds.r; Pre = holdings-Reads.Asked; Post = holdings-Reads.Learnt; key = "scenario::show::holdings" }
+holdings = record { n = 0; ps = holdings-Kinds.ps; r = holdings-Kinds.r; Pre = holdings-Reads.Asked; Post = holdings-Reads.Learnt; key = "report::state::holdings" }
 
-pub knows-holdings : (w : World) (γ : Env) → γ "scenario::show::holdings" ≡ holdings-Symbol.routine → Knows holdings (under w γ)
-knows-holdings w γ e = holdings-Reads.known w γ "scenario::show::holdings" holdings-Symbol.routine e (holdings-Met.met (w .𝓤) (w .H) (w .𝓜) (w .𝓖) (w .𝓡))
+pub knows-holdings : (w : World) (γ : Env) → γ "report::state::holdings" ≡ holdings-Symbol.routine → Knows holdings (under w γ)
+knows-holdings w γ e = holdings-Reads.known w γ "report::state::holdings" holdings-Symbol.routine e (holdings-Met.met (w .𝓤) (w .H) (w .𝓜) (w .𝓖) (w .𝓡))
 
 abbrev pub trades-head : Callee
-trades-head = record { n = 0; ps = trades-head-Kinds.ps; r = trades-head-Kinds.r; Pre = trades-head-Reads.Asked; Post = trades-head-Reads.Learnt; key = "scenario::show::trades_head" }
+trades-head = record { n = 0; ps = trades-head-Kinds.ps; r = trades-head-Kinds.r; Pre = trades-head-Reads.Asked; Post = trades-head-Reads.Learnt; key = "report::state::trades_head" }
 
-pub knows-trades-head : (w : World) (γ : Env) → γ "scenario::show::trades_head" ≡ trades-head-Symbol.routine → Knows trades-head (under w γ)
-knows-trades-head w γ e = trades-head-Reads.known w γ "scenario::show::trades_head" trades-head-Symbol.routine e (trades-head-Met.met (w .𝓤) (w .H) (w .𝓜) (w .𝓖) (w .𝓡))
+pub knows-trades-head : (w : World) (γ : Env) → γ "report::state::trades_head" ≡ trades-head-Symbol.routine → Knows trades-head (under w γ)
+knows-trades-head w γ e = trades-head-Reads.known w γ "report::state::trades_head" trades-head-Symbol.routine e (trades-head-Met.met (w .𝓤) (w .H) (w .𝓜) (w .𝓖) (w .𝓡))
 
 abbrev pub book : Callee
-book = record { n = 0; ps = book-Kinds.ps; r = book-Kinds.r; Pre = book-Reads.Asked; Post = book-Reads.Learnt; key = "scenario::show::book" }
+book = record { n = 0; ps = book-Kinds.ps; r = book-Kinds.r; Pre = book-Reads.Asked; Post = book-Reads.Learnt; key = "report::state::book" }
 
-pub knows-book : (w : World) (γ : Env) → γ "scenario::show::book" ≡ book-Symbol.routine → Knows book (under w γ)
-knows-book w γ e = book-Reads.known w γ "scenario::show::book" book-Symbol.routine e (book-Met.met (w .𝓤) (w .H) (w .𝓜) (w .𝓖) (w .𝓡))
+pub knows-book : (w : World) (γ : Env) → γ "report::state::book" ≡ book-Symbol.routine → Knows book (under w γ)
+knows-book w γ e = book-Reads.known w γ "report::state::book" book-Symbol.routine e (book-Met.met (w .𝓤) (w .H) (w .𝓜) (w .𝓖) (w .𝓡))
 
 abbrev pub call-in : Callee
 call-in = record { n = 0; ps = call-in-Kinds.ps; r = call-in-Kinds.r; Pre = call-in-Reads.Asked; Post = call-in-Reads.Learnt; key = "text::input::call_in" }

@@ -1,14 +1,9 @@
 -- The contracts of the functions of a run that are proved by hand and called by another, as the borrow logic takes them. Assumes nothing.
 use Rattle.lent.proofs.Rows.{trade}
 use Rattle.lent.proofs.UistRows.{uist-broker}
-use Rattle.walks.proofs.Walk.{Contract, true, false, [], _∷_, length, _≤_, R, pV, rV, pShrS, pMutS, pNum, rUnit, w64}
-use Rattle.scenario.proofs.Rows.{call, input, done, view, symbols, run}
-
-abbrev pub act : Contract
-act = record { n = 1; ps = pV uist-broker ∷ pV call ∷ pV input ∷ pMutS (R trade) 0 tt ∷ []; r = rV done; requires = false; Pre = λ κs a. Unit {0}; Post = λ κs a z e. Unit {0} }
-
-abbrev pub look : Contract
-look = record { n = 1; ps = pV done ∷ pV call ∷ pV input ∷ pShrS (R trade) 0 tt ∷ []; r = rV done; requires = false; Pre = λ κs a. Unit {0}; Post = λ κs a z e. Unit {0} }
+use Rattle.slices.proofs.Derivation.{Contract, true, false, [], _∷_, length, _≤_, R, pV, rV, pShrS, pMutS, pNum, rUnit, w64}
+use Rattle.dispatch.proofs.Rows.{call}
+use Rattle.scenario.proofs.Rows.{view, symbols, run}
 
 abbrev pub note-trades : Contract
 note-trades = record { n = 1; ps = pV view ∷ pShrS (R trade) 0 tt ∷ pNum w64 ∷ pNum w64 ∷ []; r = rV view; requires = true; Pre = λ κs a. a .1 .1 .1 .0 ≤ length (a .1 .0 .now); Post = λ κs a z e. Unit {0} }
@@ -22,8 +17,8 @@ show-bases = record { n = 1; ps = pV uist-broker ∷ pShrS (R trade) 0 tt ∷ pV
 abbrev pub show-state : Contract
 show-state = record { n = 1; ps = pV view ∷ pV uist-broker ∷ pV call ∷ pShrS (R trade) 0 tt ∷ []; r = rV view; requires = false; Pre = λ κs a. Unit {0}; Post = λ κs a z e. Unit {0} }
 
-abbrev pub turn : Contract
-turn = record { n = 1; ps = pV run ∷ pMutS (R trade) 0 tt ∷ []; r = rV run; requires = false; Pre = λ κs a. Unit {0}; Post = λ κs a z e. Unit {0} }
+abbrev pub run-line : Contract
+run-line = record { n = 1; ps = pV run ∷ pMutS (R trade) 0 tt ∷ []; r = rV run; requires = false; Pre = λ κs a. Unit {0}; Post = λ κs a z e. Unit {0} }
 
-abbrev pub rehearse : Contract
-rehearse = record { n = 1; ps = pMutS (R trade) 0 tt ∷ []; r = rUnit; requires = false; Pre = λ κs a. Unit {0}; Post = λ κs a z e. Unit {0} }
+abbrev pub run-lines : Contract
+run-lines = record { n = 1; ps = pMutS (R trade) 0 tt ∷ []; r = rUnit; requires = false; Pre = λ κs a. Unit {0}; Post = λ κs a z e. Unit {0} }

@@ -1,16 +1,17 @@
 // What a run keeps beside the broker: the lent log's rows, what is shown, and the calls' time.
 ghost use Prim.Native.Nat.{_≤_};
-use crate::answer;
-use crate::answer::Head;
-use crate::plain_calls::Done;
 use broker::read::FloatRead;
 use broker::state::UistBroker;
 use calls::call::Call;
 use calls::verb::Verb;
 use costs::TradeCosts;
+use dispatch::plain_calls::Done;
 use market::table::ReadTable;
 use market::trade::Trade;
+use report::answer;
+use text::input;
 use text::input::Input;
+use text::out::Head;
 
 // `rows` of the log are lent; the first `shown` trades were shown, and `traded` says which symbols
 // they are of; `calls` were made since the last `clock`, in `micros`.
@@ -101,10 +102,6 @@ fn clocked(v: View, head: Head) -> View {
 // What the run keeps after a call; the lines that make none are answered.
 pub fn after(v: View, d: Done, c: Call, x: Input) -> View {
     let verb = c.verb;
-    let head = Head {
-        line: x.line,
-        verb: verb,
-    };
     let mut w = v;
     if is_call(verb) {
         w.calls = sum(v.calls, 1);
@@ -112,24 +109,24 @@ pub fn after(v: View, d: Done, c: Call, x: Input) -> View {
     }
     match verb {
         Verb::Lend => {
-            answer::worded(head, 0, b"lent");
+            answer::worded(input::head_in(x, c), 0, b"lent");
             w
         }
         Verb::State => {
-            answer::bare(head);
+            answer::worded(input::head_in(x, c), 0, b"shown");
             w
         }
         Verb::Quiet => {
-            answer::bare(head);
+            answer::worded(input::head_in(x, c), 0, b"quiet");
             w.quiet = true;
             w
         }
         Verb::Full => {
-            answer::bare(head);
+            answer::worded(input::head_in(x, c), 0, b"full");
             w.quiet = false;
             w
         }
-        Verb::Clock => clocked(w, head),
+        Verb::Clock => clocked(w, input::head_in(x, c)),
         _ => w,
     }
 }
@@ -147,7 +144,7 @@ pub fn is_hidden(v: View, c: Call) -> bool {
 
 pub fn is_broken(b: UistBroker) -> bool {
     let x = b.get_cash_balance();
-    x.number != 0
+    x.fault != 0
 }
 
 pub fn first_row(v: View) -> usize {
@@ -159,7 +156,7 @@ pub fn last_row(b: UistBroker, turnover: FloatRead, length: usize) -> usize
     ensures { λ r. ⌜ r ≤ length ⌝ }
 {
     let x = b.executed_trade_count();
-    if turnover.number != 0 {
+    if turnover.fault != 0 {
         return 0;
     }
     if x.count < length as u64 {
@@ -204,7 +201,7 @@ pub fn traded_symbols(v: View, turnover: FloatRead) -> Symbols {
     };
     let mut i: usize = 0;
     while i < 256 {
-        if v.traded[i] && turnover.number == 0 {
+        if v.traded[i] && turnover.fault == 0 {
             s = with_symbol(s, i as u32);
         }
         i = i + 1;

@@ -1,18 +1,22 @@
 // Lines of standard input, in a buffer by value.
+use crate::out;
+use crate::out::Head;
 use calls::call;
 use calls::call::Call;
 use calls::verb::Verb;
+use words::word;
 
 // The bytes read so far are the first `filled`. Where there is a line (`found`), it is from `start`
-// to before `end`; the bytes from `next` on are of later lines. `line` counts the lines found. A
-// line that does not fit is `long`; while its end is looked for, `skips`.
+// to before `end`; the bytes from `next` on are of later lines. `head` has the number of lines found
+// and the last one's first word. A line that does not fit is `long`; while its end is looked for,
+// `skips`.
 pub struct Input {
     pub bytes: [u8; 65536],
     pub filled: usize,
     pub start: usize,
     pub end: usize,
     pub next: usize,
-    pub line: u64,
+    pub head: Head,
     pub found: bool,
     pub long: bool,
     pub skips: bool,
@@ -27,7 +31,7 @@ pub fn start() -> Input {
         start: 0,
         end: 0,
         next: 0,
-        line: 0,
+        head: out::head_of(0, b""),
         found: false,
         long: false,
         skips: false,
@@ -77,8 +81,30 @@ fn read_more(bytes: &mut [u8], filled: usize) -> usize {
     io::count(got, &bytes[filled..])
 }
 
+// The head of the line's own first word.
+fn named_head(line: &[u8], number: u64) -> Head {
+    let w = word::word_at(line, 0);
+    let from = w.from;
+    let to = w.to;
+    out::head_of(number, &line[from..to])
+}
+
+// The head of the line behind that of `last`, from `at` to before `end`.
+fn head_after(last: Head, bytes: &[u8], at: usize, end: usize) -> Head {
+    let mut number = last.line;
+    if number < 18446744073709551615 {
+        number = number + 1;
+    }
+    if at <= end {
+        if end <= bytes.len() {
+            return named_head(&bytes[at..end], number);
+        }
+    }
+    out::head_of(number, b"")
+}
+
 // The line from `at` to before `end`.
-fn line_at(x: Input, at: usize, end: usize) -> Input {
+fn line_at(x: Input, at: usize, end: usize, head: Head) -> Input {
     let mut y = x;
     y.start = at;
     y.end = end;
@@ -86,9 +112,7 @@ fn line_at(x: Input, at: usize, end: usize) -> Input {
     if end < x.filled {
         y.next = end + 1;
     }
-    if x.line < 18446744073709551615 {
-        y.line = x.line + 1;
-    }
+    y.head = head;
     y.found = true;
     y.long = x.skips;
     y.skips = false;
@@ -131,13 +155,14 @@ fn emptied(x: Input) -> Input {
 // The next line, or none yet; not `open` once there is none to come.
 pub fn next(x: Input) -> Input {
     let bytes = x.bytes;
+    let last = x.head;
     let end = line_end(&bytes, x.next, x.filled);
     if end < x.filled {
-        return line_at(x, x.next, end);
+        return line_at(x, x.next, end, head_after(last, &bytes, x.next, end));
     }
     if x.ended {
         if x.next < x.filled || x.skips {
-            return line_at(x, x.next, end);
+            return line_at(x, x.next, end, head_after(last, &bytes, x.next, end));
         }
         let mut y = x;
         y.open = false;
@@ -185,4 +210,21 @@ pub fn call_in(x: Input, rows: usize) -> Call {
         }
     }
     call::plain(Verb::Malformed)
+}
+
+fn is_malformed(c: Call) -> bool {
+    let verb = c.verb;
+    match verb {
+        Verb::Malformed => true,
+        _ => false,
+    }
+}
+
+// The head of the answer to the line that was found: its verb as it was read, or `malformed`.
+pub fn head_in(x: Input, c: Call) -> Head {
+    let head = x.head;
+    if is_malformed(c) {
+        return out::head_of(head.line, b"malformed");
+    }
+    head
 }

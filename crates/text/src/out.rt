@@ -1,5 +1,4 @@
 // Text on its way out: a buffer that is written when it is full.
-use calls::verb::Verb;
 use market::order::Order;
 use market::order::OrderType;
 use market::quote::Quote;
@@ -42,6 +41,12 @@ pub fn put(out: &mut [u8; 4096], at: usize, s: &[u8]) -> usize {
     }
     flush(out, at);
     copied(out, 0, s)
+}
+
+// Ends the line: writes it.
+pub fn end_line(out: &mut [u8; 4096], at: usize) {
+    let n = put(out, at, b"\n");
+    flush(out, n);
 }
 
 pub fn put_whole(out: &mut [u8; 4096], at: usize, x: u64) -> usize {
@@ -105,7 +110,7 @@ fn put_dated(out: &mut [u8; 4096], at: usize, x: f64, date: i64) -> usize {
     put_signed(out, n, date)
 }
 
-pub fn put_quote(out: &mut [u8; 4096], at: usize, q: Quote) -> usize {
+fn put_quote(out: &mut [u8; 4096], at: usize, q: Quote) -> usize {
     let n = put_amount(out, at, q.symbol as u64, q.bid);
     put_dated(out, n, q.ask, q.date)
 }
@@ -124,77 +129,81 @@ pub fn put_trade(out: &mut [u8; 4096], at: usize, t: Trade) -> usize {
     put_dated(out, n, t.value, t.date)
 }
 
+// A whole number, after a space.
+pub fn put_whole_word(out: &mut [u8; 4096], at: usize, x: u64) -> usize {
+    let n = put(out, at, b" ");
+    put_whole(out, n, x)
+}
+
+// A float, after a space.
+pub fn put_float_word(out: &mut [u8; 4096], at: usize, x: f64) -> usize {
+    let n = put(out, at, b" ");
+    put_float(out, n, x)
+}
+
+// An order, after a space.
+pub fn put_order_word(out: &mut [u8; 4096], at: usize, o: Order) -> usize {
+    let n = put(out, at, b" ");
+    put_order(out, n, o)
+}
+
+// A quote, after a space.
+pub fn put_quote_word(out: &mut [u8; 4096], at: usize, q: Quote) -> usize {
+    let n = put(out, at, b" ");
+    put_quote(out, n, q)
+}
+
 // A symbol with its amount, after a space.
 pub fn put_entry(out: &mut [u8; 4096], at: usize, symbol: u64, x: f64) -> usize {
     let n = put(out, at, b" ");
     put_amount(out, n, symbol, x)
 }
 
-fn put_mover(out: &mut [u8; 4096], at: usize, v: Verb) -> usize {
-    match v {
-        Verb::New => put(out, at, b" new"),
-        Verb::Lend => put(out, at, b" lend"),
-        Verb::Deposit => put(out, at, b" deposit"),
-        Verb::Withdraw => put(out, at, b" withdraw"),
-        Verb::Liquidate => put(out, at, b" liquidate"),
-        Verb::Send => put(out, at, b" send"),
-        Verb::Insert => put(out, at, b" insert"),
-        Verb::SendList => put(out, at, b" send_list"),
-        Verb::Delete => put(out, at, b" delete"),
-        Verb::Check => put(out, at, b" check"),
-        Verb::Walk => put(out, at, b" walk"),
-        Verb::Update => put(out, at, b" update"),
-        _ => put(out, at, b""),
-    }
-}
-
-fn put_reader(out: &mut [u8; 4096], at: usize, v: Verb) -> usize {
-    match v {
-        Verb::GetQuote => put(out, at, b" get_quote"),
-        Verb::GetPositionQty => put(out, at, b" get_position_qty"),
-        Verb::GetPendingOrder => put(out, at, b" get_pending_order"),
-        Verb::GetPositionValue => put(out, at, b" get_position_value"),
-        Verb::GetPositionLiquidationValue => put(out, at, b" get_position_liquidation_value"),
-        Verb::CostBasis => put(out, at, b" cost_basis"),
-        Verb::GetPositions => put(out, at, b" get_positions"),
-        Verb::GetQuotes => put(out, at, b" get_quotes"),
-        Verb::GetHoldings => put(out, at, b" get_holdings"),
-        Verb::GetPendingOrders => put(out, at, b" get_pending_orders"),
-        Verb::GetTradeCosts => put(out, at, b" get_trade_costs"),
-        Verb::GetTotalValue => put(out, at, b" get_total_value"),
-        Verb::GetLiquidationValue => put(out, at, b" get_liquidation_value"),
-        Verb::GetCashBalance => put(out, at, b" get_cash_balance"),
-        Verb::Turnover => put(out, at, b" turnover"),
-        Verb::GetBrokerState => put(out, at, b" get_broker_state"),
-        Verb::ExecutedTradeCount => put(out, at, b" executed_trade_count"),
-        Verb::TradeImpactTotal => put(out, at, b" trade_impact_total"),
-        Verb::CalculateTradeCosts => put(out, at, b" calculate_trade_costs"),
-        _ => put(out, at, b""),
-    }
-}
-
-fn put_other(out: &mut [u8; 4096], at: usize, v: Verb) -> usize {
-    match v {
-        Verb::Malformed => put(out, at, b" malformed"),
-        Verb::Floor => put(out, at, b" floor"),
-        Verb::Ceil => put(out, at, b" ceil"),
-        Verb::State => put(out, at, b" state shown"),
-        Verb::Quiet => put(out, at, b" quiet quiet"),
-        Verb::Full => put(out, at, b" full full"),
-        Verb::Clock => put(out, at, b" clock"),
-        _ => put(out, at, b""),
-    }
-}
-
-// The head of an answer: the line's number and its verb.
-pub fn put_head(out: &mut [u8; 4096], line: u64, v: Verb) -> usize {
-    let mut n = put_whole(out, 0, line);
-    n = put_mover(out, n, v);
-    n = put_reader(out, n, v);
-    put_other(out, n, v)
-}
-
-pub fn put_refused(out: &mut [u8; 4096], at: usize, number: u32) -> usize {
+pub fn put_refused(out: &mut [u8; 4096], at: usize, fault: u32) -> usize {
     let n = put(out, at, b" refused ");
-    put_whole(out, n, number as u64)
+    put_whole(out, n, fault as u64)
+}
+
+// The head of an answer: the line's number and a word, the first `length` bytes of `word`.
+pub struct Head {
+    pub line: u64,
+    pub word: [u8; 64],
+    pub length: usize,
+}
+
+// The head of this number and this word, of at most 64 bytes.
+pub fn head_of(line: u64, word: &[u8]) -> Head {
+    let mut bytes = [0u8; 64];
+    let mut i: usize = 0;
+    while i < word.len() {
+        if i >= 64 {
+            break;
+        }
+        bytes[i] = word[i];
+        i = i + 1;
+    }
+    Head {
+        line: line,
+        word: bytes,
+        length: i,
+    }
+}
+
+fn put_first(out: &mut [u8; 4096], at: usize, word: &[u8], length: usize) -> usize {
+    if length <= word.len() {
+        return put(out, at, &word[..length]);
+    }
+    at
+}
+
+// Starts a line with a head, and `refused` and the number where one was drawn.
+pub fn put_head(out: &mut [u8; 4096], head: Head, fault: u32) -> usize {
+    let mut n = put_whole(out, 0, head.line);
+    n = put(out, n, b" ");
+    let word = head.word;
+    n = put_first(out, n, &word, head.length);
+    if fault == 0 {
+        return n;
+    }
+    put_refused(out, n, fault)
 }

@@ -1,29 +1,28 @@
 // Numbers as text: whole numbers, signed ones, and floats by the digits of their bits.
 ghost use mathlib.Core.Path.{_≡_};
-ghost use lib.IntN.{pos, natAbs};
+ghost use lib.IntN.{natAbs};
 ghost use lib.Ieee.{binary64, ofBits};
-ghost use mathlib.Core.Bool.{false};
-ghost use Rattle.words.specs.Numbers.{digitOf, wholeIf, signedIf, bitsIf, withDigit, wholeOf, symbolOf, positiveOf, negatedOf, signedOf, floatOf};
+ghost use Rattle.words.specs.Numbers.{digitOf, wholeIn, symbolIn, signedIn, floatIn, withDigit, wholeOf, symbolOf, positiveOf, negatedOf, signedOf, floatOf};
 
-// A number, where the text is `ok`.
-pub struct WholeRead {
-    pub value: u64,
-    pub ok: bool,
+// The number that a text is, or a text that is none.
+pub enum WholeRead {
+    Of(u64),
+    Malformed,
 }
 
-pub struct SymbolRead {
-    pub value: u32,
-    pub ok: bool,
+pub enum SymbolRead {
+    Of(u32),
+    Malformed,
 }
 
-pub struct SignedRead {
-    pub value: i64,
-    pub ok: bool,
+pub enum SignedRead {
+    Of(i64),
+    Malformed,
 }
 
-pub struct BitsRead {
-    pub value: f64,
-    pub ok: bool,
+pub enum FloatRead {
+    Of(f64),
+    Malformed,
 }
 
 // The value of a digit, `0` to `9` and then `a` to `f`, or 16.
@@ -45,122 +44,84 @@ fn digit(byte: u8) -> u64
     16
 }
 
-fn no_whole() -> WholeRead
-    ensures { λ r. ⌜ r ≡ wholeIf false 0 ⌝ }
-{
-    WholeRead {
-        value: 0,
-        ok: false,
-    }
-}
-
 // The number with one more decimal digit, where it fits.
 fn with_digit(n: u64, byte: u8) -> WholeRead
-    ensures { λ r. ⌜ r ≡ withDigit n byte ⌝ }
+    ensures { λ r. ⌜ wholeIn r ≡ withDigit n byte ⌝ }
 {
     let d = digit(byte);
     if d > 9 {
-        return no_whole();
+        return WholeRead::Malformed;
     }
     if n > 1844674407370955161 {
-        return no_whole();
+        return WholeRead::Malformed;
     }
     let tens = n * 10;
     if tens > 18446744073709551615 - d {
-        return no_whole();
+        return WholeRead::Malformed;
     }
-    WholeRead {
-        value: tens + d,
-        ok: true,
-    }
+    WholeRead::Of(tens + d)
 }
 
 // 1 to 20 decimal digits.
 pub fn whole(s: &[u8]) -> WholeRead
-    ensures { λ r. ⌜ r ≡ wholeOf (now (s .entry)) ⌝ }
+    ensures { λ r. ⌜ wholeIn r ≡ wholeOf (now (s .entry)) ⌝ }
 {
     if s.len() == 0 {
-        return no_whole();
+        return WholeRead::Malformed;
     }
     if s.len() > 20 {
-        return no_whole();
+        return WholeRead::Malformed;
     }
     let mut n: u64 = 0;
     let mut i: usize = 0;
     while i < s.len() {
-        let x = with_digit(n, s[i]);
-        if !x.ok {
-            return no_whole();
-        }
-        n = x.value;
+        let WholeRead::Of(more) = with_digit(n, s[i]) else {
+            return WholeRead::Malformed;
+        };
+        n = more;
         i = i + 1;
     }
-    WholeRead { value: n, ok: true }
+    WholeRead::Of(n)
 }
 
 // A whole number that 32 bits hold.
 pub fn symbol(s: &[u8]) -> SymbolRead
-    ensures { λ r. ⌜ r ≡ symbolOf (now (s .entry)) ⌝ }
+    ensures { λ r. ⌜ symbolIn r ≡ symbolOf (now (s .entry)) ⌝ }
 {
-    let x = whole(s);
-    if x.ok {
-        if x.value <= 4294967295 {
-            return SymbolRead {
-                value: x.value as u32,
-                ok: true,
-            };
-        }
+    let WholeRead::Of(n) = whole(s) else {
+        return SymbolRead::Malformed;
+    };
+    if n > 4294967295 {
+        return SymbolRead::Malformed;
     }
-    SymbolRead {
-        value: 0,
-        ok: false,
-    }
-}
-
-fn no_signed() -> SignedRead
-    ensures { λ r. ⌜ r ≡ signedIf false (pos 0) ⌝ }
-{
-    SignedRead {
-        value: 0,
-        ok: false,
-    }
+    SymbolRead::Of(n as u32)
 }
 
 fn positive(x: WholeRead) -> SignedRead
-    ensures { λ r. ⌜ r ≡ positiveOf x ⌝ }
+    ensures { λ r. ⌜ signedIn r ≡ positiveOf (wholeIn x) ⌝ }
 {
-    if !x.ok {
-        return no_signed();
+    let WholeRead::Of(n) = x else {
+        return SignedRead::Malformed;
+    };
+    if n > 9223372036854775807 {
+        return SignedRead::Malformed;
     }
-    if x.value > 9223372036854775807 {
-        return no_signed();
-    }
-    SignedRead {
-        value: x.value as i64,
-        ok: true,
-    }
+    SignedRead::Of(n as i64)
 }
 
 fn negated(x: WholeRead) -> SignedRead
-    ensures { λ r. ⌜ r ≡ negatedOf x ⌝ }
+    ensures { λ r. ⌜ signedIn r ≡ negatedOf (wholeIn x) ⌝ }
 {
-    if !x.ok {
-        return no_signed();
-    }
-    let n = x.value;
+    let WholeRead::Of(n) = x else {
+        return SignedRead::Malformed;
+    };
     if n == 9223372036854775808 {
-        return SignedRead {
-            value: -9223372036854775808,
-            ok: true,
-        };
+        return SignedRead::Of(-9223372036854775808);
     }
     if n > 9223372036854775807 {
-        return no_signed();
+        return SignedRead::Malformed;
     }
-    SignedRead {
-        value: 0 - n as i64,
-        ok: true,
-    }
+    SignedRead::Of(0 - n as i64)
 }
 
 // The number without its sign.
@@ -175,24 +136,15 @@ pub fn magnitude(x: i64) -> u64
 
 // A whole number, with a `-` before it or not, that 64 bits hold with its sign.
 pub fn signed(s: &[u8]) -> SignedRead
-    ensures { λ r. ⌜ r ≡ signedOf (now (s .entry)) ⌝ }
+    ensures { λ r. ⌜ signedIn r ≡ signedOf (now (s .entry)) ⌝ }
 {
     if s.len() == 0 {
-        return no_signed();
+        return SignedRead::Malformed;
     }
     if s[0] == b'-' {
         return negated(whole(&s[1..]));
     }
     positive(whole(s))
-}
-
-fn no_float() -> BitsRead
-    ensures { λ r. ⌜ r ≡ bitsIf false 0 ⌝ }
-{
-    BitsRead {
-        value: 0.0,
-        ok: false,
-    }
 }
 
 // The float of a bit pattern. Every pattern of a NaN is the one NaN.
@@ -206,24 +158,21 @@ fn of_bits(n: u64) -> f64
 }
 
 // 16 lower-case hexadecimal digits: the bits.
-pub fn float(s: &[u8]) -> BitsRead
-    ensures { λ r. ⌜ r ≡ floatOf (now (s .entry)) ⌝ }
+pub fn float(s: &[u8]) -> FloatRead
+    ensures { λ r. ⌜ floatIn r ≡ floatOf (now (s .entry)) ⌝ }
 {
     if s.len() != 16 {
-        return no_float();
+        return FloatRead::Malformed;
     }
     let mut n: u64 = 0;
     let mut i: usize = 0;
     while i < s.len() {
         let d = digit(s[i]);
         if d > 15 {
-            return no_float();
+            return FloatRead::Malformed;
         }
         n = n * 16 + d;
         i = i + 1;
     }
-    BitsRead {
-        value: of_bits(n),
-        ok: true,
-    }
+    FloatRead::Of(of_bits(n))
 }

@@ -1,5 +1,5 @@
 -- `credit`: the function over a lent account at `credit_to`. Assumes nothing.
-use Rattle.walks.proofs.Walk.{closes, under, world}
+use Rattle.slices.proofs.Derivation.{closes, under, world}
 use Rattle.account.specs.Account.{creditOf, noNumber}
 use Rattle.account.proofs.Callees.{knows-credit-to, knows-account-of, knows-event-of}
 use Rattle.account.proofs.Mutable as Mutable

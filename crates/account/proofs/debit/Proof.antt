@@ -1,5 +1,5 @@
 -- `debit`: the function over a lent account at `debit_from`. Assumes nothing.
-use Rattle.walks.proofs.Walk.{closes, under, world}
+use Rattle.slices.proofs.Derivation.{closes, under, world}
 use Rattle.account.specs.Account.{debitOf, debitNumber}
 use Rattle.account.proofs.Callees.{knows-debit-from, knows-account-of, knows-event-of}
 use Rattle.account.proofs.Mutable as Mutable

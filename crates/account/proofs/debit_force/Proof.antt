@@ -1,5 +1,5 @@
 -- `debit_force`: the function over a lent account at `force_debit_from`. Assumes nothing.
-use Rattle.walks.proofs.Walk.{closes, under, world}
+use Rattle.slices.proofs.Derivation.{closes, under, world}
 use Rattle.account.specs.Account.{forceOf, noNumber}
 use Rattle.account.proofs.Callees.{knows-force-debit-from, knows-account-of, knows-event-of}
 use Rattle.account.proofs.Mutable as Mutable

@@ -1,5 +1,5 @@
 -- `debited`: the function with plain parameters over `debit`. Assumes nothing.
-use Rattle.walks.proofs.Walk.{closes, knows, under, world}
+use Rattle.slices.proofs.Derivation.{closes, knows, under, world}
 use Rattle.account.specs.Account.{debitOf, debitNumber}
 use Rattle.account.proofs.Callees.{knows-with-cash, knows-answered}
 use Rattle.account.proofs.Mutable as Mutable

@@ -1,5 +1,5 @@
 -- `build_on`: the first rows of the table are lent, and the log is passed on. Assumes nothing.
-use Rattle.walks.proofs.Walk.{Base, ptrTo, shrTy, same, hasV, freeV, hasA, makeA, freeA, rd, fr, gn, loc, drop, copies, units, begins, over, forgets, arrTo, freeS, joins-shr, shares-array, array-shr-back, returns, Callee, Knows, _&_, no-more, shr, by-val, by-slice, calls, callee, Task, task, Derives, Owes, runs, world, under, knows, closes, arith, refl, [], _∷_, w64, erased, imm, Sc, sInt}
+use Rattle.slices.proofs.Derivation.{Base, ptrTo, shrTy, same, hasV, freeV, hasA, makeA, freeA, rd, fr, gn, loc, drop, copies, units, begins, over, forgets, arrTo, freeS, joins-shr, shares-array, array-shr-back, returns, Callee, Knows, _&_, no-more, shr, by-val, by-slice, calls, callee, Task, task, Derives, Owes, runs, world, under, knows, closes, arith, refl, [], _∷_, w64, erased, imm, Sc, sInt}
 use Rattle.lent.proofs.Rows.{quote, trade}
 use Rattle.lent.proofs.UistRows.{trade-costs}
 use Rattle.lent.proofs.Public as Public

@@ -1,5 +1,5 @@
 -- `check_on`: the first rows of both tables are lent, and the log is lent on. Assumes nothing.
-use Rattle.walks.proofs.Walk.{Base, ptrTo, mutTy, same, hasV, freeV, hasA, makeA, freeA, rd, fr, gn, loc, part, lent-len, drop, copies, units, begins, over, forgets, relends, joins, back, arrTo, freeS, joins-shr, shares-array, array-shr-back, returns, Callee, Knows, _&_, no-more, int, shr, mut-slice, by-val, by-num, by-slice, by-mut-slice, calls, callee, Task, task, Derives, Owes, runs, world, under, knows, closes, arith, refl, ap, [], _∷_, w64, named, erased, imm, mut, field, Sc, sInt, lease}
+use Rattle.slices.proofs.Derivation.{Base, ptrTo, mutTy, same, hasV, freeV, hasA, makeA, freeA, rd, fr, gn, loc, part, lent-len, drop, copies, units, begins, over, forgets, relends, joins, back, arrTo, freeS, joins-shr, shares-array, array-shr-back, returns, Callee, Knows, _&_, no-more, int, shr, mut-slice, by-val, by-num, by-slice, by-mut-slice, calls, callee, Task, task, Derives, Owes, runs, world, under, knows, closes, arith, refl, ap, [], _∷_, w64, named, erased, imm, mut, field, Sc, sInt, lease}
 use Rattle.lent.proofs.Rows.{quote, trade}
 use Rattle.lent.proofs.UistRows.{uist-broker, check-answer}
 use Rattle.lent.proofs.Public as Public

@@ -8,12 +8,12 @@ use Rattle.arrays.specs.Arrays.{blankEvents}
 use Rattle.arrays.proofs.no_events.Statement.{statement}
 use Rattle.arrays.proofs.no_events.Tie as tie
 
-market-sell-requires : tie.Need-market-sell-requires
-market-sell-requires c κs = search needs
+blank-requires : tie.Need-blank-requires
+blank-requires c κs = search needs
 
 returns : tie.Need-returns
 unfolding blankEvents
-returns c = ap (λ (o : Order). replicate 1024 (eventOf o 0)) (c .market-sell .ensures)
+returns c = ap (λ (o : Order). replicate 1024 (eventOf o 0)) (c .blank .ensures)
 
 pub no-events-spec : {M : Type 1} → statement M
-no-events-spec = tie.close (tie.spec market-sell-requires returns)
+no-events-spec = tie.close (tie.spec blank-requires returns)

@@ -6,12 +6,12 @@ use Rattle.arrays.specs.Arrays.{blankOrders}
 use Rattle.arrays.proofs.no_orders.Statement.{statement}
 use Rattle.arrays.proofs.no_orders.Tie as tie
 
-market-sell-requires : tie.Need-market-sell-requires
-market-sell-requires c κs = search needs
+blank-requires : tie.Need-blank-requires
+blank-requires c κs = search needs
 
 returns : tie.Need-returns
 unfolding blankOrders
-returns c = ap (replicate 1024) (c .market-sell .ensures)
+returns c = ap (replicate 1024) (c .blank .ensures)
 
 pub no-orders-spec : {M : Type 1} → statement M
-no-orders-spec = tie.close (tie.spec market-sell-requires returns)
+no-orders-spec = tie.close (tie.spec blank-requires returns)

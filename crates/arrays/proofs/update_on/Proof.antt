@@ -1,5 +1,5 @@
 -- `update_on`: the first rows of tables and weights are lent, the first events of an array of blank ones, and the log is lent on. Assumes nothing.
-use Rattle.walks.proofs.Walk.{Base, ptrTo, mutTy, same, hasV, freeV, hasA, makeA, freeA, rd, fr, gn, loc, part, lent-len, drop, copies, units, begins, over, forgets, relends, joins, back, arrTo, freeS, joins-shr, joins-mut, shares-array, array-shr-back, lends-array, array-back, returns, Callee, Knows, _&_, no-more, int, shr, mut-slice, by-val, by-num, by-slice, by-mut-slice, calls, callee, Task, task, Derives, Owes, runs, world, under, knows, closes, arith, refl, ap, [], _∷_, w64, named, erased, imm, mut, field, Sc, sInt, lease}
+use Rattle.slices.proofs.Derivation.{Base, ptrTo, mutTy, same, hasV, freeV, hasA, makeA, freeA, rd, fr, gn, loc, part, lent-len, drop, copies, units, begins, over, forgets, relends, joins, back, arrTo, freeS, joins-shr, joins-mut, shares-array, array-shr-back, lends-array, array-back, returns, Callee, Knows, _&_, no-more, int, shr, mut-slice, by-val, by-num, by-slice, by-mut-slice, calls, callee, Task, task, Derives, Owes, runs, world, under, knows, closes, arith, refl, ap, [], _∷_, w64, named, erased, imm, mut, field, Sc, sInt, lease}
 use Rattle.lent.proofs.Rows.{quote, trade}
 use Rattle.lent.proofs.UistRows.{uist-broker, order-event, weight, update-answer}
 use Rattle.lent.proofs.Public as Public

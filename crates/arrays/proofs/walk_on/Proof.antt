@@ -1,5 +1,5 @@
 -- `walk_on`: the first weights are lent, and the first orders of an array of blank ones. Assumes nothing.
-use Rattle.walks.proofs.Walk.{Base, ptrTo, same, hasV, freeV, hasA, makeA, freeA, rd, fr, gn, loc, drop, copies, units, begins, over, forgets, arrTo, freeS, joins-shr, joins-mut, shares-array, array-shr-back, lends-array, array-back, returns, Callee, Knows, _&_, no-more, shr, mut-slice, by-val, by-slice, by-mut-slice, calls, callee, Task, task, Derives, Owes, runs, world, under, knows, closes, arith, refl, [], _∷_, w64, erased, imm, mut, Sc, sInt}
+use Rattle.slices.proofs.Derivation.{Base, ptrTo, same, hasV, freeV, hasA, makeA, freeA, rd, fr, gn, loc, drop, copies, units, begins, over, forgets, arrTo, freeS, joins-shr, joins-mut, shares-array, array-shr-back, lends-array, array-back, returns, Callee, Knows, _&_, no-more, shr, mut-slice, by-val, by-slice, by-mut-slice, calls, callee, Task, task, Derives, Owes, runs, world, under, knows, closes, arith, refl, [], _∷_, w64, erased, imm, mut, Sc, sInt}
 use Rattle.lent.proofs.UistRows.{uist-broker, order, weight, walk-answer}
 use Rattle.lent.proofs.Public as Public
 use Rattle.lent.proofs.uist.diff_against_target_weights.Symbol as diff-against-target-weights-Symbol

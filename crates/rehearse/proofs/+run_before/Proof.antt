@@ -1,15 +1,14 @@
 -- `run_before` is safe and ends: the measure is the number of the argument. Assumes nothing.
 use Prim.Native.Nat.{ℕ, _<_}
 use native.Mathlib.Omega.{arith}
-use borrow.Author.Needs.{needs}
 use borrow.Fn.Kinds.{In}
 use borrow.Fn.PlainCycle.{Measures, is, falls, and}
 use Rattle.rehearse.proofs.run_before.Reads as run-before
 use Rattle.rehearse.proofs.run_before.Kinds as run-before-kinds
 use Rattle.rehearse.proofs.+run_before.Lts-run_before as run-before-lts
 use Rattle.rehearse.proofs.is_large.Reads as is-large-reads
-use Rattle.scenario.proofs.run.large.Reads as large-reads
-use Rattle.scenario.proofs.run.small.Reads as small-reads
+use Rattle.scenario.proofs.run.with_large_log.Reads as large-reads
+use Rattle.scenario.proofs.run.with_small_log.Reads as small-reads
 use Rattle.rehearse.proofs.+run_before.{statement}
 use Rattle.rehearse.proofs.+run_before.Tie.{close}
 
@@ -77,7 +76,7 @@ run-before-is-large-requires : (t : ℕ) → run-before-lts.Need-is-large-requir
 run-before-is-large-requires t c κs = tt
 
 -- src/main.rt:20:13
-run-before-large-requires : (t : ℕ) → run-before-lts.Need-large-requires (
+run-before-large-requires : (t : ℕ) → run-before-lts.Need-with-large-log-requires (
   run-before-below t,
   run-before.Post,
   is-large-reads.Asked,
@@ -103,7 +102,7 @@ run-before-returns : (t : ℕ) → run-before-lts.Need-returns (
 run-before-returns t c = tt
 
 -- src/main.rt:24:5
-run-before-small-requires : (t : ℕ) → run-before-lts.Need-small-requires (
+run-before-small-requires : (t : ℕ) → run-before-lts.Need-with-small-log-requires (
   run-before-below t,
   run-before.Post,
   is-large-reads.Asked,

@@ -1,8 +1,7 @@
 -- `cost_named` meets its contract. Assumes nothing.
-use mathlib.Core.Path.{ap}
-use mathlib.Core.Bool.{false}
+use mathlib.Core.Path.{refl}
 use Rattle.words.proofs.Picks.{picked, passed}
-use Rattle.rows.specs.Rows.{costIf, costNamed}
+use Rattle.rows.specs.Rows.{costNamed}
 use borrow.Author.Needs.{needs}
 use Rattle.rows.proofs.cost_named.Statement.{statement}
 use Rattle.rows.proofs.cost_named.Tie as tie
@@ -13,14 +12,11 @@ slice-aggregate-is-name c = search needs
 is-name-requires : tie.Need-is-name-requires
 is-name-requires c κs = search needs
 
-per-share-requires : tie.Need-per-share-requires
-per-share-requires c κs = search needs
-
 returns : tie.Need-returns
 unfolding costNamed
 returns c =
-    picked _ _ (c .before .before .is-name .ensures) (c .before .if1 .taken)
-    (ap (costIf _) (c .per-share .ensures))
+    picked _ _ (c .before .is-name .ensures) (c .if1 .taken)
+    refl
 
 slice-aggregate-is-name-2 : tie.Need-slice-aggregate-is-name-2
 slice-aggregate-is-name-2 c = search needs
@@ -28,16 +24,13 @@ slice-aggregate-is-name-2 c = search needs
 is-name-requires-2 : tie.Need-is-name-requires-2
 is-name-requires-2 c κs = search needs
 
-pct-of-value-requires : tie.Need-pct-of-value-requires
-pct-of-value-requires c κs = search needs
-
 returns-2 : tie.Need-returns-2
 unfolding costNamed
 returns-2 c =
-    let x1 = c .before .before .before .before in
+    let x1 = c .before .before .before in
     passed _ _ (x1 .before .is-name .ensures) (x1 .if1 .left)
-    (picked _ _ (c .before .before .is-name2 .ensures) (c .before .if2 .taken)
-    (ap (costIf _) (c .pct-of-value .ensures)))
+    (picked _ _ (c .before .is-name2 .ensures) (c .if2 .taken)
+    refl)
 
 slice-aggregate-is-name-3 : tie.Need-slice-aggregate-is-name-3
 slice-aggregate-is-name-3 c = search needs
@@ -45,32 +38,26 @@ slice-aggregate-is-name-3 c = search needs
 is-name-requires-3 : tie.Need-is-name-requires-3
 is-name-requires-3 c κs = search needs
 
-flat-requires : tie.Need-flat-requires
-flat-requires c κs = search needs
-
 returns-3 : tie.Need-returns-3
 unfolding costNamed
 returns-3 c =
-    let x2 = c .before .before .before .before in
+    let x2 = c .before .before .before in
     let x1 = x2 .before .before .before in
     passed _ _ (x1 .before .is-name .ensures) (x1 .if1 .left)
     (passed _ _ (x2 .before .is-name2 .ensures) (x2 .if2 .left)
-    (picked _ _ (c .before .before .is-name3 .ensures) (c .before .if3 .taken)
-    (ap (costIf _) (c .flat .ensures))))
-
-flat-requires-2 : tie.Need-flat-requires-2
-flat-requires-2 c κs = search needs
+    (picked _ _ (c .before .is-name3 .ensures) (c .if3 .taken)
+    refl))
 
 returns-4 : tie.Need-returns-4
 unfolding costNamed
 returns-4 c =
-    let x3 = c .before in
+    let x3 = c in
     let x2 = x3 .before .before .before in
     let x1 = x2 .before .before .before in
     passed _ _ (x1 .before .is-name .ensures) (x1 .if1 .left)
     (passed _ _ (x2 .before .is-name2 .ensures) (x2 .if2 .left)
     (passed _ _ (x3 .before .is-name3 .ensures) (x3 .if3 .left)
-    (ap (costIf false) (c .flat2 .ensures))))
+    refl))
 
 pub cost-named-spec : {M : Type 1} → statement M
 cost-named-spec =
@@ -78,15 +65,11 @@ cost-named-spec =
     (tie.spec
     slice-aggregate-is-name
     is-name-requires
-    per-share-requires
     returns
     slice-aggregate-is-name-2
     is-name-requires-2
-    pct-of-value-requires
     returns-2
     slice-aggregate-is-name-3
     is-name-requires-3
-    flat-requires
     returns-3
-    flat-requires-2
     returns-4)

@@ -2,7 +2,7 @@
 use Rattle.reads.proofs.Lending as Lending
 use Rattle.reads.proofs.uist.get_holdings.Symbol as get-holdings-Symbol
 use Rattle.reads.proofs.uist.get_holdings.Met as get-holdings-Met
-use Rattle.walks.proofs.Walk.{closes, knows, under, world}
+use Rattle.slices.proofs.Derivation.{closes, knows, under, world}
 use Rattle.arrays.proofs.OnArrays as OnArrays
 use Rattle.arrays.proofs.ReadLists.{holdings as list}
 use Rattle.arrays.proofs.read.entries.Symbol as entries-Symbol

@@ -9,7 +9,7 @@ use lib.ListN.{length, drop, getD, length-map, drop-of-length-le}
 use lib.Seq.{drop-cons}
 use borrow.Author.Needs.{needs}
 use borrow.Author.Tests.{lt-ltb, le-ltb, not-true, not-false}
-use Rattle.market.specs.Numbers.{_draws_, drawn}
+use Rattle.market.specs.Faults.{_draws_, drawn}
 use Rattle.costs.specs.Kept.{costsOf}
 use Rattle.costs.specs.declared.BrokerCost.{BrokerCost}
 use Rattle.costs.specs.declared.TradeCosts.{TradeCosts}

@@ -7,9 +7,9 @@ use Rattle.costs.specs.Kept.{noCosts}
 use Rattle.costs.specs.declared.TradeCosts.{TradeCosts}
 use Rattle.exchange.specs.State.{fresh}
 use Rattle.exchange.specs.declared.state.UistV1.{UistV1}
-use Rattle.broker.specs.State.{noFunds}
+use Rattle.portfolio.specs.State.{noFunds}
 use Rattle.broker.specs.Build.{noBroker}
-use Rattle.broker.specs.declared.state.Funds.{Funds}
+use Rattle.portfolio.specs.declared.state.Funds.{Funds}
 use Rattle.broker.specs.declared.state.UistBroker.{UistBroker}
 use Rattle.broker.proofs.build.no_broker.Statement.{statement}
 use Rattle.broker.proofs.build.no_broker.Tie as tie
@@ -17,7 +17,7 @@ use Rattle.broker.proofs.build.no_broker.Tie as tie
 abbrev refusing : UistV1 → Table → Funds → TradeCosts → UistBroker
 refusing e t f k =
     record {
-      exchange = record { book = e .book; counts = record { resting = 0; waits = 0; given = 1; taken = 0; logged = 0; room = 0 } };
+      exchange = record { book = e .book; counts = record { resting = 0; waits = 0; ids = 1; taken = 0; logged = 0; room = 0 } };
       portfolio = record { latest = t; funds = f; costs = k };
     }
 

@@ -7,12 +7,12 @@ use Rattle.broker.specs.Read.{readFloat}
 use Rattle.broker.proofs.read.float_read.Statement.{statement}
 use Rattle.broker.proofs.read.float_read.Tie as tie
 
-refused : (x : Float) (n : ℕ) → (n ≡ 0 → ⊥) → record { value = zero64; number = n } ≡ readFloat x n
+refused : (x : Float) (n : ℕ) → (n ≡ 0 → ⊥) → record { value = zero64; fault = n } ≡ readFloat x n
 unfolding readFloat
 refused x zero d = absurd (d refl)
 refused x (suc n) d = refl
 
-answered : (x : Float) (n : ℕ) → n ≡ 0 → record { value = x; number = n } ≡ readFloat x n
+answered : (x : Float) (n : ℕ) → n ≡ 0 → record { value = x; fault = n } ≡ readFloat x n
 unfolding readFloat
 answered x n z = rw z
 

@@ -3,8 +3,8 @@ use mathlib.Core.Path.{_≡_, sym, _∙_}
 use mathlib.Core.Bool.{true}
 use borrow.Author.Needs.{needs}
 use borrow.Author.Tests.{not-true, not-false}
-use Rattle.rules.specs.Sends.{isMarket}
-use Rattle.broker.proofs.Sending.{event-order, event-failed, event-unquoted, event-limit, event-poor, event-short, event-zero, event-room}
+use Rattle.market.specs.Orders.{isMarket}
+use Rattle.broker.proofs.Sending.{event-order, event-failed, event-unquoted, event-limit, event-cash, event-holding, event-zero, event-room}
 use Rattle.broker.proofs.send.send_event.Statement.{statement}
 use Rattle.broker.proofs.send.send_event.Tie as tie
 
@@ -70,8 +70,8 @@ returns-4 c =
     event-limit (a .o) (a .failed) (a .cash) (a .x) (a .counts) _ (own .before .fault .ensures) (own .if1 .left) (ready .if2 .left) _ (read .latest-of .ensures) _ (quoted .q .given .1) _
     (c .event4 .ensures) (sym (kind .is-market .ensures) ∙ not-true _ (then .if3 .taken))
 
-is-poor-requires : tie.Need-is-poor-requires
-is-poor-requires c κs = search needs
+exceeds-cash-requires : tie.Need-exceeds-cash-requires
+exceeds-cash-requires c κs = search needs
 
 event-requires-5 : tie.Need-event-requires-5
 event-requires-5 c κs = search needs
@@ -90,11 +90,11 @@ returns-5 c =
     let ready = read .before in
     let own = ready .before in
     let a = own .before .before .args in
-    event-poor (a .o) (a .failed) (a .cash) (a .x) (a .counts) _ (own .before .fault .ensures) (own .if1 .left) (ready .if2 .left) _ (read .latest-of .ensures) _ (quoted .q .given .1)
-    (market traded) _ (c .event5 .ensures) (sym (tested .is-poor .ensures) ∙ then .if4 .taken)
+    event-cash (a .o) (a .failed) (a .cash) (a .x) (a .counts) _ (own .before .fault .ensures) (own .if1 .left) (ready .if2 .left) _ (read .latest-of .ensures) _ (quoted .q .given .1)
+    (market traded) _ (c .event5 .ensures) (sym (tested .exceeds-cash .ensures) ∙ then .if4 .taken)
 
-is-short-requires : tie.Need-is-short-requires
-is-short-requires c κs = search needs
+exceeds-holding-requires : tie.Need-exceeds-holding-requires
+exceeds-holding-requires c κs = search needs
 
 event-requires-6 : tie.Need-event-requires-6
 event-requires-6 c κs = search needs
@@ -110,8 +110,8 @@ returns-6 c =
     let ready = read .before in
     let own = ready .before in
     let a = own .before .before .args in
-    event-short (a .o) (a .failed) (a .cash) (a .x) (a .counts) _ (own .before .fault .ensures) (own .if1 .left) (ready .if2 .left) _ (read .latest-of .ensures) _ (quoted .q .given .1)
-    (market traded) _ (c .event6 .ensures) (sym (paid .before .is-poor .ensures) ∙ paid .if4 .left) (sym (tested .is-short .ensures) ∙ then .if5 .taken)
+    event-holding (a .o) (a .failed) (a .cash) (a .x) (a .counts) _ (own .before .fault .ensures) (own .if1 .left) (ready .if2 .left) _ (read .latest-of .ensures) _ (quoted .q .given .1)
+    (market traded) _ (c .event6 .ensures) (sym (paid .before .exceeds-cash .ensures) ∙ paid .if4 .left) (sym (tested .exceeds-holding .ensures) ∙ then .if5 .taken)
 
 event-requires-7 : tie.Need-event-requires-7
 event-requires-7 c κs = search needs
@@ -128,7 +128,7 @@ returns-7 c =
     let own = ready .before in
     let a = own .before .before .args in
     event-zero (a .o) (a .failed) (a .cash) (a .x) (a .counts) _ (own .before .fault .ensures) (own .if1 .left) (ready .if2 .left) _ (read .latest-of .ensures) _ (quoted .q .given .1)
-    (market traded) _ (c .event7 .ensures) (sym (paid .before .is-poor .ensures) ∙ paid .if4 .left) (sym (held .before .is-short .ensures) ∙ held .if5 .left) (then .if6 .taken)
+    (market traded) _ (c .event7 .ensures) (sym (paid .before .exceeds-cash .ensures) ∙ paid .if4 .left) (sym (held .before .exceeds-holding .ensures) ∙ held .if5 .left) (then .if6 .taken)
 
 room-fault-requires : tie.Need-room-fault-requires
 room-fault-requires c κs = search needs
@@ -149,7 +149,7 @@ returns-8 c =
     let own = ready .before in
     let a = own .before .before .args in
     event-room (a .o) (a .failed) (a .cash) (a .x) (a .counts) _ (own .before .fault .ensures) (own .if1 .left) (ready .if2 .left) _ (read .latest-of .ensures) _ (quoted .q .given .1)
-    (market traded) _ _ (c .event8 .ensures) (sym (paid .before .is-poor .ensures) ∙ paid .if4 .left) (sym (held .before .is-short .ensures) ∙ held .if5 .left) (some .if6 .left)
+    (market traded) _ _ (c .event8 .ensures) (sym (paid .before .exceeds-cash .ensures) ∙ paid .if4 .left) (sym (held .before .exceeds-holding .ensures) ∙ held .if5 .left) (some .if6 .left)
     (room .room-fault .ensures)
 
 pub send-event-spec : {M : Type 1} → statement M
@@ -169,10 +169,10 @@ send-event-spec =
     is-market-requires
     event-requires-4
     returns-4
-    is-poor-requires
+    exceeds-cash-requires
     event-requires-5
     returns-5
-    is-short-requires
+    exceeds-holding-requires
     event-requires-6
     returns-6
     event-requires-7

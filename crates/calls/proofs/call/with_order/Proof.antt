@@ -1,10 +1,10 @@
 -- `call::with_order` meets its contract. Assumes nothing.
 use mathlib.Core.Path.{ap, _∙_}
-use borrow.Author.Tests.{not-true, not-false}
-use Rattle.rows.specs.Rows.{orderOf}
-use Rattle.calls.specs.Lists.{firstWords, spanned}
-use Rattle.calls.specs.Calls.{orderSaid, saidOrder, heard, plainCall}
-use Rattle.calls.proofs.Calls.{met, unmet, plain-heard}
+use Rattle.words.proofs.Picks.{says, with-some, with-none}
+use Rattle.rows.specs.Rows.{orderIn, orderOf}
+use Rattle.calls.specs.Lists.{firstWords, wordsIn}
+use Rattle.calls.specs.Calls.{saidOrder, heard, plainCall}
+use Rattle.calls.proofs.Calls.{plain-heard}
 use borrow.Author.Needs.{needs}
 use Rattle.calls.proofs.call.with_order.Statement.{statement}
 use Rattle.calls.proofs.call.with_order.Tie as tie
@@ -24,6 +24,12 @@ part-order-end c = search needs
 order-requires : tie.Need-order-requires
 order-requires c κs = search needs
 
+enum-known-x : tie.Need-enum-known-x
+enum-known-x c = search needs
+
+enum-told : tie.Need-enum-told
+enum-told c = search needs
+
 malformed-requires : tie.Need-malformed-requires
 malformed-requires c κs = search needs
 
@@ -31,19 +37,16 @@ returns : tie.Need-returns
 unfolding saidOrder
 returns c =
     let read = c .before .before .before in
-    unmet _ _ (not-true _ (c .before .if1 .taken)) (plain-heard _ _ (c .malformed .ensures))
-    ∙ ap (orderSaid _) (read .order .ensures ∙ ap orderOf (read .before .before .only-at .ensures .bytes))
+    with-none _ _ (says orderIn (read .order .ensures ∙ ap orderOf (read .before .before .only-at .ensures .bytes)) (c .before .enum-told .given .1)) (plain-heard _ _ (c .malformed .ensures))
 
 plain-requires : tie.Need-plain-requires
 plain-requires c κs = search needs
 
 returns-2 : tie.Need-returns-2
-unfolding saidOrder heard plainCall spanned firstWords
+unfolding saidOrder heard plainCall wordsIn firstWords
 returns-2 c =
-    let plain = c .before in
-    let read = plain .before .before .before in
-    met _ _ (not-false _ (plain .before .if1 .left)) (rw (plain .plain .ensures))
-    ∙ ap (orderSaid _) (read .order .ensures ∙ ap orderOf (read .before .before .only-at .ensures .bytes))
+    let read = c .before .before .before .before in
+    with-some _ _ _ (says orderIn (read .order .ensures ∙ ap orderOf (read .before .before .only-at .ensures .bytes)) (c .before .before .x .given .1)) (rw (c .plain .ensures))
 
 pub with-order-spec : {M : Type 1} → statement M
 with-order-spec =
@@ -54,6 +57,8 @@ with-order-spec =
     part-order-start
     part-order-end
     order-requires
+    enum-known-x
+    enum-told
     malformed-requires
     returns
     plain-requires

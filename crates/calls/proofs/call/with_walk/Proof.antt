@@ -1,9 +1,11 @@
 -- `call::with_walk` meets its contract. Assumes nothing.
-use mathlib.Core.Path.{_∙_}
-use borrow.Author.Tests.{not-true, not-false}
-use Rattle.calls.specs.Lists.{firstWords, spanned}
-use Rattle.calls.specs.Calls.{saidWalk, heard, plainCall}
-use Rattle.calls.proofs.Calls.{met, unmet, plain-heard, walk-is}
+use mathlib.Core.Path.{ap, _∙_}
+use mathlib.Core.Bool.{false}
+use Rattle.words.proofs.Picks.{says, with-some, with-none}
+use Rattle.calls.specs.declared.list.RowKind.the-variants.{Weight as WeightRow}
+use Rattle.calls.specs.Lists.{listOf, firstWords, wordsIn, spanned}
+use Rattle.calls.specs.Calls.{roomIn, roomFrom, roomOf, saidWalk, heard, plainCall}
+use Rattle.calls.proofs.Calls.{plain-heard}
 use borrow.Author.Needs.{needs}
 use Rattle.calls.proofs.call.with_walk.Statement.{statement}
 use Rattle.calls.proofs.call.with_walk.Tie as tie
@@ -14,30 +16,54 @@ whole-at-requires c κs = search needs
 room-of-requires : tie.Need-room-of-requires
 room-of-requires c κs = search needs
 
-span-at-requires : tie.Need-span-at-requires
-span-at-requires c κs = search needs
+enum-known-room : tie.Need-enum-known-room
+enum-known-room c = search needs
+
+enum-told : tie.Need-enum-told
+enum-told c = search needs
 
 malformed-requires : tie.Need-malformed-requires
 malformed-requires c κs = search needs
 
 returns : tie.Need-returns
-unfolding saidWalk spanned
+unfolding roomOf saidWalk
 returns c =
-    let list = c .before .before .before .before .before in
-    let room = list .before in
-    unmet _ _ (not-true _ (c .before .if1 .taken)) (plain-heard _ _ (c .malformed .ensures))
-    ∙ walk-is _ _ _ _ (room .before .before .whole-at .ensures) _ (room .room-of .ensures) (list .span-at .result) (list .span-at .ensures)
+    let room = c .before .before .before in
+    let head = room .before .whole-at .ensures in
+    with-none _ _ (says roomIn (room .room-of .ensures ∙ ap roomFrom (head .read)) (c .before .enum-told .given .1)) (plain-heard _ _ (c .malformed .ensures))
+
+span-at-requires : tie.Need-span-at-requires
+span-at-requires c κs = search needs
+
+enum-known-weights : tie.Need-enum-known-weights
+enum-known-weights c = search needs
+
+enum-told-2 : tie.Need-enum-told-2
+enum-told-2 c = search needs
+
+malformed-requires-2 : tie.Need-malformed-requires-2
+malformed-requires-2 c κs = search needs
+
+returns-2 : tie.Need-returns-2
+unfolding roomOf saidWalk spanned
+returns-2 c =
+    let weights = c .before .before .before in
+    let room = weights .before .before .before .before in
+    let head = room .before .whole-at .ensures in
+    with-some _ _ _ (says roomIn (room .room-of .ensures ∙ ap roomFrom (head .read)) (weights .before .before .room .given .1))
+    (with-none _ _ (says (spanned _) (weights .span-at .ensures ∙ ap (listOf WeightRow 512 false) (head .rest)) (c .before .enum-told2 .given .1)) (plain-heard _ _ (c .malformed2 .ensures)))
 
 plain-requires : tie.Need-plain-requires
 plain-requires c κs = search needs
 
-returns-2 : tie.Need-returns-2
-unfolding saidWalk heard plainCall spanned firstWords
-returns-2 c =
-    let list = c .before .before .before .before .before in
-    let room = list .before in
-    met _ _ (not-false _ (c .before .if1 .left)) (rw (c .plain .ensures))
-    ∙ walk-is _ _ _ _ (room .before .before .whole-at .ensures) _ (room .room-of .ensures) (list .span-at .result) (list .span-at .ensures)
+returns-3 : tie.Need-returns-3
+unfolding roomOf saidWalk spanned heard plainCall wordsIn firstWords
+returns-3 c =
+    let weights = c .before .before .before .before in
+    let room = weights .before .before .before .before in
+    let head = room .before .whole-at .ensures in
+    with-some _ _ _ (says roomIn (room .room-of .ensures ∙ ap roomFrom (head .read)) (weights .before .before .room .given .1))
+    (with-some _ _ _ (says (spanned _) (weights .span-at .ensures ∙ ap (listOf WeightRow 512 false) (head .rest)) (c .before .before .weights .given .1)) (rw (c .plain .ensures)))
 
 pub with-walk-spec : {M : Type 1} → statement M
 with-walk-spec =
@@ -45,8 +71,14 @@ with-walk-spec =
     (tie.spec
     whole-at-requires
     room-of-requires
-    span-at-requires
+    enum-known-room
+    enum-told
     malformed-requires
     returns
+    span-at-requires
+    enum-known-weights
+    enum-told-2
+    malformed-requires-2
+    returns-2
     plain-requires
-    returns-2)
+    returns-3)

@@ -24,17 +24,17 @@ loop-holds c = none-gathered _ _ _ _ (c .none .ensures)
 word-at-requires : tie.Need-word-at-requires Inv-loop μ-loop
 word-at-requires c κs = search needs
 
-sub-cost : tie.Need-sub-cost Inv-loop μ-loop
-sub-cost c = omega (arith, ordered)
+sub-cost-or-blank : tie.Need-sub-cost-or-blank Inv-loop μ-loop
+sub-cost-or-blank c = omega (arith, ordered)
 
-part-cost-start : tie.Need-part-cost-start Inv-loop μ-loop
-part-cost-start c = omega (arith, ordered)
+part-cost-or-blank-start : tie.Need-part-cost-or-blank-start Inv-loop μ-loop
+part-cost-or-blank-start c = omega (arith, ordered)
 
-part-cost-end : tie.Need-part-cost-end Inv-loop μ-loop
-part-cost-end c = within _ _ (c .word-at .ensures)
+part-cost-or-blank-end : tie.Need-part-cost-or-blank-end Inv-loop μ-loop
+part-cost-or-blank-end c = within _ _ (c .word-at .ensures)
 
-cost-requires : tie.Need-cost-requires Inv-loop μ-loop
-cost-requires c κs = search needs
+cost-or-blank-requires : tie.Need-cost-or-blank-requires Inv-loop μ-loop
+cost-or-blank-requires c κs = search needs
 
 with-requires : tie.Need-with-requires Inv-loop μ-loop
 with-requires c κs = search needs
@@ -50,7 +50,7 @@ loop-again c =
     let at = c .before .before .before in
     let loop = at .before .before .loop in
     gathered-more _ _ _ _ _ _ (loop .inv) (at .word-at .ensures) _
-    (c .with .ensures ∙ ap (λ x. withCost (loop .list) (x .cost)) (c .before .cost .ensures))
+    (c .with .ensures ∙ ap (withCost (loop .list)) (c .before .cost-or-blank .ensures))
     (omega arith)
 
 returns : tie.Need-returns Inv-loop μ-loop
@@ -65,10 +65,10 @@ costs-spec =
     none-requires
     loop-holds
     word-at-requires
-    sub-cost
-    part-cost-start
-    part-cost-end
-    cost-requires
+    sub-cost-or-blank
+    part-cost-or-blank-start
+    part-cost-or-blank-end
+    cost-or-blank-requires
     with-requires
     add-i
     loop-less

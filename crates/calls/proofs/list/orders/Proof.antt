@@ -4,38 +4,39 @@ use mathlib.Core.Path.{ap}
 use native.Mathlib.Omega.{arith}
 use lib.ListN.{replicate}
 use Rattle.words.proofs.Words.{ordered, within}
-use Rattle.calls.specs.Lists.{orderIn, blankOrder, readOrders}
+use Rattle.market.specs.Orders.{blankOrder}
+use Rattle.calls.specs.Lists.{orderOrBlank, readOrders}
 use Rattle.calls.proofs.Lists.{Filled, none-filled, filled-more, all-filled}
 use borrow.Author.Needs.{needs}
 use Rattle.calls.proofs.list.orders.Statement.{statement}
 use Rattle.calls.proofs.list.orders.Tie as tie
 
 abbrev Inv-loop : tie.InvT-loop
-Inv-loop line at n list₀ at-word₀ i₀ list at-word i = Filled orderIn blankOrder 1024 line at n list at-word i
+Inv-loop line at n list₀ at-word₀ i₀ list at-word i = Filled orderOrBlank blankOrder 1024 line at n list at-word i
 
 abbrev μ-loop : tie.MeasureT-loop
 μ-loop line at n list₀ at-word₀ i₀ list at-word i = 1024 - i
 
-market-sell-requires : tie.Need-market-sell-requires Inv-loop μ-loop
-market-sell-requires c κs = search needs
+blank-requires : tie.Need-blank-requires Inv-loop μ-loop
+blank-requires c κs = search needs
 
 loop-holds : tie.Need-loop-holds Inv-loop μ-loop
-loop-holds c = none-filled _ _ _ _ _ _ _ (ap (replicate 1024) (c .market-sell .ensures))
+loop-holds c = none-filled _ _ _ _ _ _ _ (ap (replicate 1024) (c .blank .ensures))
 
 word-at-requires : tie.Need-word-at-requires Inv-loop μ-loop
 word-at-requires c κs = search needs
 
-sub-order : tie.Need-sub-order Inv-loop μ-loop
-sub-order c = omega (arith, ordered)
+sub-order-or-blank : tie.Need-sub-order-or-blank Inv-loop μ-loop
+sub-order-or-blank c = omega (arith, ordered)
 
-part-order-start : tie.Need-part-order-start Inv-loop μ-loop
-part-order-start c = omega (arith, ordered)
+part-order-or-blank-start : tie.Need-part-order-or-blank-start Inv-loop μ-loop
+part-order-or-blank-start c = omega (arith, ordered)
 
-part-order-end : tie.Need-part-order-end Inv-loop μ-loop
-part-order-end c = within _ _ (c .word-at .ensures)
+part-order-or-blank-end : tie.Need-part-order-or-blank-end Inv-loop μ-loop
+part-order-or-blank-end c = within _ _ (c .word-at .ensures)
 
-order-requires : tie.Need-order-requires Inv-loop μ-loop
-order-requires c κs = search needs
+order-or-blank-requires : tie.Need-order-or-blank-requires Inv-loop μ-loop
+order-or-blank-requires c κs = search needs
 
 mul-list : tie.Need-mul-list Inv-loop μ-loop
 mul-list c = search needs
@@ -51,9 +52,9 @@ loop-less c = search needs
 
 loop-again : tie.Need-loop-again Inv-loop μ-loop
 loop-again c =
-    let at = c .before .before .before in
+    let at = c .before .before in
     let test = at .before .before in
-    filled-more _ _ _ _ _ _ _ _ _ (test .before .loop .inv) (at .word-at .ensures) _ (ap (λ x. x .order) (c .before .order .ensures)) (omega arith) (at .before .if1 .left)
+    filled-more _ _ _ _ _ _ _ _ _ (test .before .loop .inv) (at .word-at .ensures) _ (c .order-or-blank .ensures) (omega arith) (at .before .if1 .left)
 
 returns : tie.Need-returns Inv-loop μ-loop
 unfolding readOrders
@@ -69,13 +70,13 @@ orders-spec =
     (tie.spec
     Inv-loop
     μ-loop
-    market-sell-requires
+    blank-requires
     loop-holds
     word-at-requires
-    sub-order
-    part-order-start
-    part-order-end
-    order-requires
+    sub-order-or-blank
+    part-order-or-blank-start
+    part-order-or-blank-end
+    order-or-blank-requires
     mul-list
     array-set-from-list
     add-i

@@ -5,14 +5,14 @@ use native.Mathlib.Omega.{arith}
 use lib.ListN.{replicate}
 use Rattle.market.specs.Quotes.{blankQuote}
 use Rattle.words.proofs.Words.{ordered, within}
-use Rattle.calls.specs.Lists.{quoteIn, readQuotes}
+use Rattle.calls.specs.Lists.{quoteOrBlank, readQuotes}
 use Rattle.calls.proofs.Lists.{Filled, none-filled, filled-more, all-filled}
 use borrow.Author.Needs.{needs}
 use Rattle.calls.proofs.list.quotes.Statement.{statement}
 use Rattle.calls.proofs.list.quotes.Tie as tie
 
 abbrev Inv-loop : tie.InvT-loop
-Inv-loop line at n list₀ at-word₀ i₀ list at-word i = Filled quoteIn blankQuote 512 line at n list at-word i
+Inv-loop line at n list₀ at-word₀ i₀ list at-word i = Filled quoteOrBlank blankQuote 512 line at n list at-word i
 
 abbrev μ-loop : tie.MeasureT-loop
 μ-loop line at n list₀ at-word₀ i₀ list at-word i = 512 - i
@@ -26,17 +26,17 @@ loop-holds c = none-filled _ _ _ _ _ _ _ (ap (replicate 512) (c .blank .ensures)
 word-at-requires : tie.Need-word-at-requires Inv-loop μ-loop
 word-at-requires c κs = search needs
 
-sub-quote : tie.Need-sub-quote Inv-loop μ-loop
-sub-quote c = omega (arith, ordered)
+sub-quote-or-blank : tie.Need-sub-quote-or-blank Inv-loop μ-loop
+sub-quote-or-blank c = omega (arith, ordered)
 
-part-quote-start : tie.Need-part-quote-start Inv-loop μ-loop
-part-quote-start c = omega (arith, ordered)
+part-quote-or-blank-start : tie.Need-part-quote-or-blank-start Inv-loop μ-loop
+part-quote-or-blank-start c = omega (arith, ordered)
 
-part-quote-end : tie.Need-part-quote-end Inv-loop μ-loop
-part-quote-end c = within _ _ (c .word-at .ensures)
+part-quote-or-blank-end : tie.Need-part-quote-or-blank-end Inv-loop μ-loop
+part-quote-or-blank-end c = within _ _ (c .word-at .ensures)
 
-quote-requires : tie.Need-quote-requires Inv-loop μ-loop
-quote-requires c κs = search needs
+quote-or-blank-requires : tie.Need-quote-or-blank-requires Inv-loop μ-loop
+quote-or-blank-requires c κs = search needs
 
 mul-list : tie.Need-mul-list Inv-loop μ-loop
 mul-list c = search needs
@@ -52,9 +52,9 @@ loop-less c = search needs
 
 loop-again : tie.Need-loop-again Inv-loop μ-loop
 loop-again c =
-    let at = c .before .before .before in
+    let at = c .before .before in
     let test = at .before .before in
-    filled-more _ _ _ _ _ _ _ _ _ (test .before .loop .inv) (at .word-at .ensures) _ (ap (λ x. x .quote) (c .before .quote .ensures)) (omega arith) (at .before .if1 .left)
+    filled-more _ _ _ _ _ _ _ _ _ (test .before .loop .inv) (at .word-at .ensures) _ (c .quote-or-blank .ensures) (omega arith) (at .before .if1 .left)
 
 returns : tie.Need-returns Inv-loop μ-loop
 unfolding readQuotes
@@ -73,10 +73,10 @@ quotes-spec =
     blank-requires
     loop-holds
     word-at-requires
-    sub-quote
-    part-quote-start
-    part-quote-end
-    quote-requires
+    sub-quote-or-blank
+    part-quote-or-blank-start
+    part-quote-or-blank-end
+    quote-or-blank-requires
     mul-list
     array-set-from-list
     add-i

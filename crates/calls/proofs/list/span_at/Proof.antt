@@ -5,20 +5,21 @@ use mathlib.Core.Path.{sym, _∙_}
 use native.Mathlib.Omega.{arith}
 use borrow.Author.Tests.{not-true, not-false}
 use lib.ListN.{length}
+use Rattle.calls.specs.Lists.{spanned}
 use Rattle.words.proofs.Words.{ordered, within, beyond}
-use Rattle.calls.proofs.Lists.{Passed, none-passed, ends, many, some-byte, unfit, passed-more}
+use Rattle.calls.proofs.Lists.{Passed, none-passed, ends-well, ends-ill, many, some-byte, unfit, passed-more}
 use borrow.Author.Needs.{needs}
 use Rattle.calls.proofs.list.span_at.Statement.{statement}
 use Rattle.calls.proofs.list.span_at.Tie as tie
 
 abbrev Inv-loop : tie.InvT-loop
-Inv-loop line at kind most i₀ count₀ i count = Passed line at kind most i count
+Inv-loop line at kind most before i₀ count₀ i count = Passed line at kind most before i count
 
 abbrev μ-loop : tie.MeasureT-loop
-μ-loop line at kind most i₀ count₀ i count = length line - i
+μ-loop line at kind most before i₀ count₀ i count = length line - i
 
 loop-holds : tie.Need-loop-holds Inv-loop μ-loop
-loop-holds c = none-passed _ _ _ _
+loop-holds c = none-passed _ _ _ _ _
 
 word-at-requires : tie.Need-word-at-requires Inv-loop μ-loop
 word-at-requires c κs = search needs
@@ -36,21 +37,24 @@ is-slash-requires : tie.Need-is-slash-requires Inv-loop μ-loop
 is-slash-requires c κs = search needs
 
 returns : tie.Need-returns Inv-loop μ-loop
+unfolding spanned
 returns c =
-    let is = c .before in
+    let is = c .before .before in
     let at = is .before .before in
-    ends _ _ _ _ _ _ (at .before .loop .inv) (at .word-at .ensures) _ (is .is-slash .ensures) (c .if1 .taken)
-
-no-list-requires : tie.Need-no-list-requires Inv-loop μ-loop
-no-list-requires c κs = search needs
+    ends-ill _ _ _ _ _ _ _ (at .before .loop .inv) (at .word-at .ensures) _ (is .is-slash .ensures) (c .before .if1 .taken) (not-true _ (c .if2 .taken))
 
 returns-2 : tie.Need-returns-2 Inv-loop μ-loop
 returns-2 c =
-    let no = c .before .before in
-    let is = no .before in
+    let is = c .before .before in
     let at = is .before .before in
-    c .no-list .ensures
-    ∙ many _ _ _ _ _ _ (at .before .loop .inv) (at .word-at .ensures) _ (is .is-slash .ensures) (no .if1 .left) (c .before .if2 .taken)
+    ends-well _ _ _ _ _ _ _ (at .before .loop .inv) (at .word-at .ensures) _ (is .is-slash .ensures) (c .before .if1 .taken) (not-false _ (c .if2 .left))
+
+returns-3 : tie.Need-returns-3 Inv-loop μ-loop
+unfolding spanned
+returns-3 c =
+    let is = c .before .before in
+    let at = is .before .before in
+    many _ _ _ _ _ _ _ (at .before .loop .inv) (at .word-at .ensures) _ (is .is-slash .ensures) (c .before .if1 .left) (c .if3 .taken)
 
 sub-is-row : tie.Need-sub-is-row Inv-loop μ-loop
 sub-is-row c = omega (arith, ordered)
@@ -64,18 +68,15 @@ part-is-row-end c = within _ _ (c .before .before .before .before .word-at .ensu
 is-row-requires : tie.Need-is-row-requires Inv-loop μ-loop
 is-row-requires c κs = search needs
 
-no-list-requires-2 : tie.Need-no-list-requires-2 Inv-loop μ-loop
-no-list-requires-2 c κs = search needs
-
-returns-3 : tie.Need-returns-3 Inv-loop μ-loop
-returns-3 c =
-    let row = c .before .before in
+returns-4 : tie.Need-returns-4 Inv-loop μ-loop
+unfolding spanned
+returns-4 c =
+    let row = c .before in
     let no = row .before .before .before in
     let is = no .before in
     let at = is .before .before in
-    c .no-list2 .ensures
-    ∙ unfit _ _ _ _ _ _ (at .before .loop .inv) (at .word-at .ensures) _ (is .is-slash .ensures) (no .if1 .left)
-    (sym (row .is-row .ensures) ∙ not-true _ (c .before .if3 .taken))
+    unfit _ _ _ _ _ _ _ (at .before .loop .inv) (at .word-at .ensures) _ (is .is-slash .ensures) (no .if1 .left)
+    (sym (row .is-row .ensures) ∙ not-true _ (c .if4 .taken))
 
 add-count : tie.Need-add-count Inv-loop μ-loop
 add-count c = search needs
@@ -88,7 +89,7 @@ loop-less c =
     let e = at .word-at .ensures in
     omega (
       arith,
-      some-byte _ _ _ _ _ _ (at .before .loop .inv) e _ (is .is-slash .ensures) (no .if1 .left),
+      some-byte _ _ _ _ _ _ _ (at .before .loop .inv) e _ (is .is-slash .ensures) (no .if1 .left),
       within _ _ e,
       beyond _ _ e,
     )
@@ -100,8 +101,8 @@ loop-again c =
     let no = few .before in
     let is = no .before in
     let at = is .before .before in
-    passed-more _ _ _ _ _ _ (at .before .loop .inv) (at .word-at .ensures) _ (is .is-slash .ensures) (no .if1 .left) (few .if2 .left)
-    (sym (row .is-row .ensures) ∙ not-false _ (c .if3 .left))
+    passed-more _ _ _ _ _ _ _ (at .before .loop .inv) (at .word-at .ensures) _ (is .is-slash .ensures) (no .if1 .left) (few .if3 .left)
+    (sym (row .is-row .ensures) ∙ not-false _ (c .if4 .left))
 
 pub span-at-spec : {M : Type 1} → statement M
 span-at-spec =
@@ -116,14 +117,13 @@ span-at-spec =
     part-is-slash-end
     is-slash-requires
     returns
-    no-list-requires
     returns-2
+    returns-3
     sub-is-row
     part-is-row-start
     part-is-row-end
     is-row-requires
-    no-list-requires-2
-    returns-3
+    returns-4
     add-count
     loop-less
     loop-again)

@@ -1,6 +1,6 @@
 -- `book_waiting` meets its contract: the orders that are left, booked behind those that are, make the whole.
 use Prim.Native.Nat.{ℕ, _+_, _-_, _<_}
-use mathlib.Core.Path.{_≡_, refl, ap, sym, _∙_}
+use mathlib.Core.Path.{_≡_, ap, sym, _∙_}
 use mathlib.Core.Bool.{Bool, Bool·beq}
 use mathlib.Core.Logic.{⊎-elim}
 use native.Mathlib.Omega.{arith}
@@ -8,6 +8,7 @@ use lib.Dec.{ltb}
 use lib.ListN.{getD, set, length-map}
 use borrow.Author.Needs.{needs}
 use Rattle.market.specs.Orders.{isSell}
+use Rattle.exchange.specs.State.{bookedAs}
 use Rattle.exchange.specs.Tick.{bookWaitingOf}
 use Rattle.exchange.proofs.Executing.{noBooked}
 use Rattle.exchange.proofs.Booking.{Inv, same-booking, seen, seen-within, waiting-start, place-left, books-one, passes-one, waiting-booked}
@@ -15,12 +16,12 @@ use Rattle.exchange.proofs.tick.book_waiting.Statement.{statement}
 use Rattle.exchange.proofs.tick.book_waiting.Tie as tie
 
 abbrev Inv-loop : tie.InvT-loop
-Inv-loop from waits old book₀ at₀ number₀ turns i₀ book at number i =
-    Inv old from waits (bookWaitingOf old from waits (record { book = book₀; at = at₀; number = number₀ }))
-    (record { book = book; at = at; number = number }) i
+Inv-loop from waits old book₀ at₀ ids₀ turns i₀ book at ids i =
+    Inv old from waits (bookWaitingOf old from waits (record { book = book₀; at = at₀; ids = ids₀ }))
+    (record { book = book; at = at; ids = ids }) i
 
 abbrev μ-loop : tie.MeasureT-loop
-μ-loop from waits old book₀ at₀ number₀ turns i₀ book at number i = waits + waits - i
+μ-loop from waits old book₀ at₀ ids₀ turns i₀ book at ids i = waits + waits - i
 
 add-turns : tie.Need-add-turns Inv-loop μ-loop
 add-turns c = omega arith
@@ -68,14 +69,17 @@ at-fits : (c : tie.Then1 Inv-loop μ-loop) → c .before .before .before .before
 at-fits c =
     place-left _ _ _ _ _ _ (c .before .before .before .before .before .before .loop .inv) (c .before .before .before .before .before .loop-test .taken) (side-at (c .before) (c .if1 .taken))
 
+numbered-requires : tie.Need-numbered-requires Inv-loop μ-loop
+numbered-requires c κs = search needs
+
 mul-book : tie.Need-mul-book Inv-loop μ-loop
-mul-book c = omega (arith, at-fits c)
+mul-book c = omega (arith, at-fits (c .before))
 
 array-set-from-book : tie.Need-array-set-from-book Inv-loop μ-loop
-array-set-from-book c = at-fits c
+array-set-from-book c = at-fits (c .before)
 
 add-at : tie.Need-add-at Inv-loop μ-loop
-add-at c = omega (arith, at-fits c)
+add-at c = omega (arith, at-fits (c .before))
 
 wrapping-add-u64-requires : tie.Need-wrapping-add-u64-requires Inv-loop μ-loop
 wrapping-add-u64-requires c κs = search needs
@@ -91,8 +95,8 @@ loop-again c =
     let a = c .before .before .before .before .before .before .loop in
     let h = c .before .before .before .before .before .loop-test .taken in
     let s = c .before .before .before .before .before .before .before .before .args in
-    let turned = ap (λ (m : ℕ). set (a .book) (a .at) (record { number = a .number; order = getD (s .t1) m noBooked .order })) (c .before .before .before .before .waiting-place .ensures) in
-    ⊎-elim (λ w. books-one _ _ _ _ _ _ (a .inv) h _ (side-at (c .before) (w .0 .taken)) (same-booking _ _ (w .2 ∙ turned) (w .3) (w .4 ∙ w .1 .ensures)))
+    let turned = ap (λ (m : ℕ). bookedAs (a .ids) (getD (s .t1) m noBooked .order)) (c .before .before .before .before .waiting-place .ensures) in
+    ⊎-elim (λ w. books-one _ _ _ _ _ _ (a .inv) h _ (side-at (c .before) (w .0 .taken)) (same-booking _ _ (w .3 ∙ ap (set (a .book) (a .at)) (w .1 .ensures ∙ turned)) (w .4) (w .5 ∙ w .2 .ensures)))
     (λ w. passes-one _ _ _ _ _ _ (a .inv) h _ (side-at (c .before) (w .0 .left)) (same-booking _ _ (w .1) (w .2) (w .3))) (c .if1 .came)
 
 returns : tie.Need-returns Inv-loop μ-loop
@@ -110,6 +114,7 @@ book-waiting-spec =
     mul-w
     array-copy-out-w
     is-sell-requires
+    numbered-requires
     mul-book
     array-set-from-book
     add-at

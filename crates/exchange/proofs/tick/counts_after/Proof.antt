@@ -1,6 +1,6 @@
 -- `counts_after` meets its contract: each return is the test on its path.
 use native.Mathlib.Omega.{arith}
-use Rattle.exchange.proofs.Counting.{unless-some, unless-none}
+use Rattle.market.proofs.Faults.{unless-some, unless-none}
 use Rattle.exchange.proofs.tick.counts_after.Statement.{statement}
 use Rattle.exchange.proofs.tick.counts_after.Tie as tie
 

@@ -56,8 +56,8 @@ element-copy-out-q c = omega arith
 element-copy-out-present : tie.Need-element-copy-out-present Inv-loop μ-loop
 element-copy-out-present c = omega arith
 
-listed-requires : tie.Need-listed-requires Inv-loop μ-loop
-listed-requires c κs = search needs
+has-row-requires : tie.Need-has-row-requires Inv-loop μ-loop
+has-row-requires c κs = search needs
 
 execute-requires : tie.Need-execute-requires Inv-loop μ-loop
 execute-requires c κs = search needs
@@ -99,7 +99,7 @@ loop-again c =
     let args = c .before .before .before .before .before .before .before .before .before .before .args in
     let read = unmoved _ _ _ _ _ _ _ _ (a .inv) in
     let on = ap (λ (b : Booked). tradeAt (rowAt (args .t3)) (b .order)) (sym read)
-    ∙ fill-at (args .t3) (getD (a .stay) (a .i) noBooked .order) _ (c .before .execute .result) (c .before .before .listed .ensures) (c .before .execute .ensures) in
+    ∙ fill-at (args .t3) (getD (a .stay) (a .i) noBooked .order) _ (c .before .execute .result) (c .before .before .has-row .ensures) (c .before .execute .ensures) in
     ⊎-elim (λ w. trades-one _ _ _ _ _ _ _ _ (a .inv) h _ _ _ _ _ (on ∙ ap tradeIn (w .1 .given .1)) (w .3) (w .4) (w .5) (w .6))
     (λ w. keeps-one _ _ _ _ _ _ _ _ (a .inv) h _ _ _ _ (on ∙ ap tradeIn (w .1 .given .1)) (w .2 ∙ ap (set (a .stay) (a .kept)) read) (w .3) (w .4) (w .5)) (c .match .came)
 
@@ -120,7 +120,7 @@ execute-orders-spec =
     mul-q
     element-copy-out-q
     element-copy-out-present
-    listed-requires
+    has-row-requires
     execute-requires
     enum-known-fill
     mul-trades

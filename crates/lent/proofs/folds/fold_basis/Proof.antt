@@ -1,10 +1,11 @@
 -- `fold_basis`: the loop folds one row more in each turn. Assumes nothing.
-use Rattle.walks.proofs.Walk.{Base, R, ty, shrTy, same, hasV, makeV, freeV, rd, to, fr, gn, flag, loc, lit, part, shr-ptr, drop, sets, ops, op-stmt, copies, reads, loops, tests, ends, leaves, returns, Knows, _&_, no-more, int, by-val, by-num, calls, Task, task, here, Derives, Owes, runs, world, under, closes, refl, List, [], _∷_, w32, w64, named, field, tyInt, tyBool, tyPtr, lt, mul, add, offset, unsigned, rowsFrom, Sc, Entry, sInt, sBool, sPtr, sc-here, any-gone, whole, sslice}
-use Rattle.walks.proofs.Walk.{_≡_, ap, _∙_, ℕ, _≤_, _<_, _+_, _-_, _*_, _^_, length, getD, take, size, upd, get, arith, zero≤, scaled-fits, ltb-true, ltb-false, falls, reached}
+use Rattle.slices.proofs.Derivation.{Base, R, ty, shrTy, same, hasV, makeV, freeV, rd, to, fr, gn, flag, loc, lit, part, shr-ptr, drop, sets, ops, op-stmt, copies, reads, loops, tests, ends, leaves, returns, Knows, _&_, no-more, int, by-val, by-num, calls, Task, task, here, Derives, Owes, runs, world, under, closes, refl, List, [], _∷_, w32, w64, named, field, tyInt, tyBool, tyPtr, lt, mul, add, offset, unsigned, rowsFrom, Sc, Entry, sInt, sBool, sPtr, sc-here, any-gone, whole, sslice}
+use Rattle.slices.proofs.Derivation.{_≡_, ap, _∙_, ℕ, _≤_, _<_, _+_, _-_, _*_, _^_, length, getD, take, size, upd, get, arith, zero≤, scaled-fits, ltb-true, ltb-false, falls, reached}
 use Rattle.market.specs.declared.trade.Trade.{Trade}
 use Rattle.rules.specs.Basis as Rules
 use Rattle.rules.specs.Basis.{basisStep}
-use Rattle.lent.specs.Logs.{basisIn, noBasis, basisOver}
+use Rattle.portfolio.specs.Basis.{basisIn, noBasis}
+use Rattle.lent.specs.Logs.{basisOver}
 use Rattle.lent.proofs.Folding.{fold-more}
 use Rattle.lent.proofs.Rows.{trade}
 use Rattle.lent.proofs.UistRows.{basis}
@@ -78,6 +79,6 @@ unfolding code.routine
 fold-basis-spec 𝓤 H 𝓜 𝓖 𝓡 =
     let w = world 𝓤 H 𝓜 𝓖 𝓡 in
     closes contract w code.env name code.function (code.unfolded 𝓤 H 𝓜 𝓡) (runs goal derived asked (under w code.env) (
-      knows-no-basis w code.env code.calls-lent·folds·no-basis,
-      knows-basis-step w code.env code.calls-lent·folds·basis-step,
+      knows-no-basis w code.env code.calls-portfolio·basis·no-basis,
+      knows-basis-step w code.env code.calls-portfolio·basis·basis-step,
     ))

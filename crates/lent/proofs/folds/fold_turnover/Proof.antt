@@ -1,6 +1,6 @@
 -- `fold_turnover`: the loop adds one row's value in each turn. Assumes nothing.
-use Rattle.walks.proofs.Walk.{Base, R, ty, shrTy, same, hasV, makeV, freeV, rd, to, fr, gn, flag, loc, lit, flit, part, shr-ptr, drop, sets, ops, op-stmt, copies, reads, loops, tests, ends, leaves, returns, Knows, _&_, no-more, by-val, calls, Task, task, here, Derives, Owes, runs, world, under, closes, refl, List, [], _∷_, binary64, w64, named, field, tyInt, tyBool, tyPtr, tyFloat, lt, mul, add, offset, unsigned, floatAdd, rowsFrom, Sc, Entry, sInt, sFloat, sBool, sPtr, sc-here, any-gone, sslice}
-use Rattle.walks.proofs.Walk.{_≡_, ap, _∙_, Float, ℕ, _≤_, _<_, _+_, _-_, _*_, _^_, length, take, size, upd, get, arith, zero≤, scaled-fits, ltb-true, ltb-false, falls, reached}
+use Rattle.slices.proofs.Derivation.{Base, R, ty, shrTy, same, hasV, makeV, freeV, rd, to, fr, gn, flag, loc, lit, flit, part, shr-ptr, drop, sets, ops, op-stmt, copies, reads, loops, tests, ends, leaves, returns, Knows, _&_, no-more, by-val, calls, Task, task, here, Derives, Owes, runs, world, under, closes, refl, List, [], _∷_, binary64, w64, named, field, tyInt, tyBool, tyPtr, tyFloat, lt, mul, add, offset, unsigned, floatAdd, rowsFrom, Sc, Entry, sInt, sFloat, sBool, sPtr, sc-here, any-gone, sslice}
+use Rattle.slices.proofs.Derivation.{_≡_, ap, _∙_, Float, ℕ, _≤_, _<_, _+_, _-_, _*_, _^_, length, take, size, upd, get, arith, zero≤, scaled-fits, ltb-true, ltb-false, falls, reached}
 use Rattle.market.specs.Orders.{zero64}
 use Rattle.market.specs.declared.trade.Trade.{Trade}
 use Rattle.rules.specs.Amounts.{plus}

@@ -1,6 +1,6 @@
 -- `store_trades`: the store loop at trades. Assumes nothing.
-use Rattle.walks.proofs.Walk.{closes, under, world}
-use Rattle.walks.proofs.Store as Store
+use Rattle.slices.proofs.Derivation.{closes, under, world}
+use Rattle.slices.proofs.Store as Store
 use Rattle.lent.proofs.Rows.{trade}
 use Rattle.lent.proofs.log.store_trades.Key.{name}
 use Rattle.lent.proofs.log.store_trades.Code as code

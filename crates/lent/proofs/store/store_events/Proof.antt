@@ -1,6 +1,6 @@
 -- `store_events`: the store loop at events. Assumes nothing.
-use Rattle.walks.proofs.Walk.{closes, under, world}
-use Rattle.walks.proofs.Store as Store
+use Rattle.slices.proofs.Derivation.{closes, under, world}
+use Rattle.slices.proofs.Store as Store
 use Rattle.lent.proofs.UistRows.{order-event}
 use Rattle.lent.proofs.store.store_events.Key.{name}
 use Rattle.lent.proofs.store.store_events.Code as code

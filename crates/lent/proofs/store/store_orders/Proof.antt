@@ -1,6 +1,6 @@
 -- `store_orders`: the store loop at orders. Assumes nothing.
-use Rattle.walks.proofs.Walk.{closes, under, world}
-use Rattle.walks.proofs.Store as Store
+use Rattle.slices.proofs.Derivation.{closes, under, world}
+use Rattle.slices.proofs.Store as Store
 use Rattle.lent.proofs.UistRows.{order}
 use Rattle.lent.proofs.store.store_orders.Key.{name}
 use Rattle.lent.proofs.store.store_orders.Code as code

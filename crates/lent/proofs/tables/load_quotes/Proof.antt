@@ -1,6 +1,6 @@
 -- `load_quotes`: the load loop at quotes. Assumes nothing.
-use Rattle.walks.proofs.Walk.{closes, under, world}
-use Rattle.walks.proofs.Load as Load
+use Rattle.slices.proofs.Derivation.{closes, under, world}
+use Rattle.slices.proofs.Load as Load
 use Rattle.lent.proofs.Rows.{quote}
 use Rattle.lent.proofs.tables.load_quotes.Key.{name}
 use Rattle.lent.proofs.tables.load_quotes.Code as code

@@ -1,6 +1,6 @@
 -- `read_table`: four calls in a row; no row after the 257th counts. Assumes nothing.
-use Rattle.walks.proofs.Walk.{Base, shrTy, hasA, freeA, to, fr, gn, part, shr-len, drop, sets, returns, Callee, Knows, _&_, no-more, int, shr, by-val, by-num, by-slice, calls, callee, Task, task, Derives, Owes, runs, world, under, closes, knows, _≡_, refl, _∙_, ap, List, [], _∷_, ℕ, length, take, w64, named, field, Sc, sInt}
-use Rattle.walks.proofs.Load as Load
+use Rattle.slices.proofs.Derivation.{Base, shrTy, hasA, freeA, to, fr, gn, part, shr-len, drop, sets, returns, Callee, Knows, _&_, no-more, int, shr, by-val, by-num, by-slice, calls, callee, Task, task, Derives, Owes, runs, world, under, closes, knows, _≡_, refl, _∙_, ap, List, [], _∷_, ℕ, length, take, w64, named, field, Sc, sInt}
+use Rattle.slices.proofs.Load as Load
 use Prim.Native.Nat.{min}
 use lib.Seq.{paste}
 use Rattle.market.specs.Quotes.{tableOf}

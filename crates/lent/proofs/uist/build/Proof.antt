@@ -1,5 +1,5 @@
 -- `build`: the table is read, and the log's length goes to `UistBroker::build`. Assumes nothing.
-use Rattle.walks.proofs.Walk.{Base, shrTy, hasV, freeV, rd, to, fr, gn, loc, part, shr-len, drop, sets, returns, Callee, Knows, _&_, no-more, int, shr, by-val, by-num, by-slice, calls, callee, Task, task, Derives, Owes, runs, world, under, closes, knows, refl, _∙_, ap, [], _∷_, length, w64, named, field, Sc, sInt}
+use Rattle.slices.proofs.Derivation.{Base, shrTy, hasV, freeV, rd, to, fr, gn, loc, part, shr-len, drop, sets, returns, Callee, Knows, _&_, no-more, int, shr, by-val, by-num, by-slice, calls, callee, Task, task, Derives, Owes, runs, world, under, closes, knows, refl, _∙_, ap, [], _∷_, length, w64, named, field, Sc, sInt}
 use Rattle.market.specs.declared.table.Table.{Table}
 use Rattle.broker.specs.Build.{buildOf}
 use Rattle.lent.proofs.Rows.{quote, table, trade}

@@ -1,8 +1,8 @@
 -- `cost_basis`: four calls in a row; where a number is drawn no row is read. Assumes nothing.
-use Rattle.walks.proofs.Walk.{Base, shrTy, hasV, freeV, to, fr, gn, part, shr-len, drop, sets, returns, Callee, Knows, _&_, no-more, int, shr, by-val, by-num, by-slice, calls, callee, Task, task, Derives, Owes, runs, world, under, closes, knows, refl, List, [], _∷_, w32, w64, named, field, Sc, sInt}
+use Rattle.slices.proofs.Derivation.{Base, shrTy, hasV, freeV, to, fr, gn, part, shr-len, drop, sets, returns, Callee, Knows, _&_, no-more, int, shr, by-val, by-num, by-slice, calls, callee, Task, task, Derives, Owes, runs, world, under, closes, knows, refl, List, [], _∷_, w32, w64, named, field, Sc, sInt}
 use Rattle.market.specs.declared.trade.Trade.{Trade}
 use Rattle.broker.specs.declared.state.UistBroker.{UistBroker}
-use Rattle.lent.specs.Logs.{basisIn}
+use Rattle.portfolio.specs.Basis.{basisIn}
 use Rattle.lent.proofs.Faults.{rows-fit}
 use Rattle.lent.proofs.Folding.{reads-basis}
 use Rattle.lent.proofs.Rows.{trade}

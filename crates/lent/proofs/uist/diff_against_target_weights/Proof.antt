@@ -1,7 +1,7 @@
 -- `diff_against_target_weights`: the weights are read, the walk runs by value, and the list is lent on to the store loop. Assumes nothing.
-use Rattle.walks.proofs.Walk.{Base, ptrTo, shrTy, mutTy, same, hasV, freeV, hasA, freeA, to, fr, gn, part, shr-len, mut-len, lent-len, drop, sets, units, begins, over, forgets, relends, joins, back, returns, Callee, Knows, _&_, no-more, int, shr, mut-slice, by-val, by-num, by-lit, by-slice, by-mut-slice, calls, callee, Task, task, Derives, Owes, runs, world, under, closes, knows}
-use Rattle.walks.proofs.Walk.{refl, ap, List, [], _∷_, Ty, w64, named, erased, mut, field, Sc, sInt, sUnit, lease}
-use Rattle.walks.proofs.Store as Store
+use Rattle.slices.proofs.Derivation.{Base, ptrTo, shrTy, mutTy, same, hasV, freeV, hasA, freeA, to, fr, gn, part, shr-len, mut-len, lent-len, drop, sets, units, begins, over, forgets, relends, joins, back, returns, Callee, Knows, _&_, no-more, int, shr, mut-slice, by-val, by-num, by-lit, by-slice, by-mut-slice, calls, callee, Task, task, Derives, Owes, runs, world, under, closes, knows}
+use Rattle.slices.proofs.Derivation.{refl, ap, List, [], _∷_, Ty, w64, named, erased, mut, field, Sc, sInt, sUnit, lease}
+use Rattle.slices.proofs.Store as Store
 use Rattle.market.specs.declared.order.Order.{Order}
 use Rattle.market.specs.declared.weight.Weight.{Weight}
 use Rattle.broker.specs.declared.state.UistBroker.{UistBroker}

@@ -1,13 +1,13 @@
 -- `send_orders`: in each turn the loop reads an order, sends it by value, and stores its event. Assumes nothing.
-use Rattle.walks.proofs.Walk.{Base, R, ty, shrTy, mutTy, same, hasV, makeV, freeV, rd, to, fr, gn, flag, loc, lit, part, shr-ptr, shr-len, mut-ptr, mut-len, drop, sets, ops, op-stmt, copies, reads, stores, loops, tests, ends, leaves, returns, Knows, _&_, no-more, int, by-val, by-num, calls, Task, task, here, Derives, Owes, runs, world, under, closes, refl, List, [], _∷_, w32, w64, named, field, tyInt, tyBool, tyPtr, lt, mul, add, offset, unsigned, rowsFrom, Sc, Entry, sInt, sBool, sPtr, sc-here, any-gone, whole, sslice, mslice, setVals}
-use Rattle.walks.proofs.Walk.{_≡_, ap, ℕ, _≤_, _<_, _+_, _-_, _*_, _^_, length, set, size, upd, get, arith, scaled-fits, ltb-true, ltb-false, falls, reached}
+use Rattle.slices.proofs.Derivation.{Base, R, ty, shrTy, mutTy, same, hasV, makeV, freeV, rd, to, fr, gn, flag, loc, lit, part, shr-ptr, shr-len, mut-ptr, mut-len, drop, sets, ops, op-stmt, copies, reads, stores, loops, tests, ends, leaves, returns, Knows, _&_, no-more, int, by-val, by-num, calls, Task, task, here, Derives, Owes, runs, world, under, closes, refl, List, [], _∷_, w32, w64, named, field, tyInt, tyBool, tyPtr, lt, mul, add, offset, unsigned, rowsFrom, Sc, Entry, sInt, sBool, sPtr, sc-here, any-gone, whole, sslice, mslice, setVals}
+use Rattle.slices.proofs.Derivation.{_≡_, ap, ℕ, _≤_, _<_, _+_, _-_, _*_, _^_, length, set, size, upd, get, arith, scaled-fits, ltb-true, ltb-false, falls, reached}
 use Rattle.market.specs.declared.order.Order.{Order}
 use Rattle.broker.specs.declared.state.UistBroker.{UistBroker}
 use Rattle.market.specs.declared.order.OrderEvent.{OrderEvent}
 use Rattle.lent.proofs.Sends.{Sends, sends-none, sends-one, told-length, rows-sent, sound-sent, send-answers}
 use Rattle.lent.proofs.UistRows as Rows
 use Rattle.lent.proofs.UistRows.{uist-broker, order, order-event, sent}
-use Rattle.lent.proofs.UistCallees.{lender-fault, knows-lender-fault, rows-unless, knows-rows-unless, send-order, knows-send-order, event-of, knows-event-of, broker-of, knows-broker-of, send-answer, knows-send-answer}
+use Rattle.lent.proofs.UistCallees.{lender-fault, knows-lender-fault, count-unless, knows-count-unless, send-order, knows-send-order, event-of, knows-event-of, broker-of, knows-broker-of, send-answer, knows-send-answer}
 use Rattle.lent.proofs.Public.{send-orders as contract}
 use Rattle.lent.proofs.uist.send_orders.Key.{name}
 use Rattle.lent.proofs.uist.send_orders.Code as code
@@ -20,7 +20,7 @@ abbrev N : Sc
 N = sInt w32
 
 abbrev Kn : Base → Type 1
-Kn o = Knows lender-fault o × Knows rows-unless o × Knows send-order o × Knows event-of o × Knows broker-of o × Knows send-answer o
+Kn o = Knows lender-fault o × Knows count-unless o × Knows send-order o × Knows event-of o × Knows broker-of o × Knows send-answer o
 
 abbrev goal : Task
 goal = task contract 0 code.function Kn
@@ -35,7 +35,7 @@ derived o kn κs qs bs =
     sets 12 (part 3 (field 1 ∷ []) (mut-len order-event (named 1) 1) refl) gn (to U) (λ u. refl) (λ u. tt) (
     calls lender-fault (kn .0) [] (by-val 1 (hasV uist-broker) refl & by-num 11 int refl & by-num 12 int refl & no-more) 4 gn tt refl (
     sets 11 (part 2 (field 1 ∷ []) (shr-len order (named 0) 0) refl) (fr U) (to U) (λ u. refl) (λ u. tt) (
-    calls rows-unless (kn .1) [] (by-num 11 int refl & by-num 4 int refl & no-more) 5 gn tt refl (
+    calls count-unless (kn .1) [] (by-num 4 int refl & by-num 11 int refl & no-more) 5 gn tt refl (
     copies 1 6 (hasV uist-broker) gn (makeV uist-broker) refl (
     sets 7 (lit 0 tt) gn (to U) (λ u. refl) (λ u. tt) (
     drop 11 (fr U) (drop 12 (fr U) (
@@ -135,8 +135,8 @@ unfolding code.routine
 send-orders-spec 𝓤 H 𝓜 𝓖 𝓡 =
     let w = world 𝓤 H 𝓜 𝓖 𝓡 in
     closes contract w code.env name code.function (code.unfolded 𝓤 H 𝓜 𝓡) (runs goal derived asked (under w code.env) (
-      knows-lender-fault w code.env code.calls-lent·uist·lender-fault,
-      knows-rows-unless w code.env code.calls-lent·uist·rows-unless,
+      knows-lender-fault w code.env code.calls-broker·state·UistBroker·lender-fault,
+      knows-count-unless w code.env code.calls-market·fault·count-unless,
       knows-send-order w code.env code.calls-broker·state·UistBroker·send-order,
       knows-event-of w code.env code.calls-lent·uist·event-of,
       knows-broker-of w code.env code.calls-lent·uist·broker-of,

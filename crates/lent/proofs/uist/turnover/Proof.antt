@@ -1,12 +1,12 @@
 -- `turnover`: four calls in a row; where a number is drawn no row is read. Assumes nothing.
-use Rattle.walks.proofs.Walk.{Base, shrTy, hasV, freeV, to, fr, gn, part, shr-len, drop, sets, returns, Callee, Knows, _&_, no-more, int, real, shr, by-val, by-num, by-float, by-slice, calls, callee, Task, task, Derives, Owes, runs, world, under, closes, knows, refl, List, [], _∷_, binary64, w32, w64, named, field, Sc, sInt, sFloat}
+use Rattle.slices.proofs.Derivation.{Base, shrTy, hasV, freeV, to, fr, gn, part, shr-len, drop, sets, returns, Callee, Knows, _&_, no-more, int, real, shr, by-val, by-num, by-float, by-slice, calls, callee, Task, task, Derives, Owes, runs, world, under, closes, knows, refl, List, [], _∷_, binary64, w32, w64, named, field, Sc, sInt, sFloat}
 use Rattle.market.specs.declared.trade.Trade.{Trade}
 use Rattle.broker.specs.declared.state.UistBroker.{UistBroker}
 use Rattle.lent.proofs.Faults.{rows-fit}
 use Rattle.lent.proofs.Folding.{reads-turnover}
 use Rattle.lent.proofs.Rows.{trade}
 use Rattle.lent.proofs.UistRows.{uist-broker}
-use Rattle.lent.proofs.UistCallees.{log-fault, knows-log-fault, rows-logged, knows-rows-logged, turnover-read, knows-turnover-read}
+use Rattle.lent.proofs.UistCallees.{fault-for, knows-fault-for, rows-logged, knows-rows-logged, turnover-read, knows-turnover-read}
 use Rattle.lent.proofs.Contracts as Contracts
 use Rattle.lent.proofs.folds.fold_turnover.Symbol as fold-turnover-Symbol
 use Rattle.lent.proofs.folds.fold_turnover.Met as fold-turnover-Met
@@ -28,7 +28,7 @@ abbrev fold-turnover : Callee
 fold-turnover = callee Contracts.fold-turnover "lent::folds::fold_turnover"
 
 abbrev Kn : Base → Type 1
-Kn o = Knows log-fault o × Knows rows-logged o × Knows fold-turnover o × Knows turnover-read o
+Kn o = Knows fault-for o × Knows rows-logged o × Knows fold-turnover o × Knows turnover-read o
 
 abbrev goal : Task
 goal = task contract 0 code.function Kn
@@ -36,7 +36,7 @@ goal = task contract 0 code.function Kn
 abbrev derived : Derives goal
 derived o kn κs qs bs =
     sets 6 (part 2 (field 1 ∷ []) (shr-len trade (named 0) 0) refl) gn (to U) (λ u. refl) (λ u. tt) (
-    calls log-fault (kn .0) [] (by-val 1 (hasV uist-broker) refl & by-num 6 int refl & no-more) 3 gn tt refl (
+    calls fault-for (kn .0) [] (by-val 1 (hasV uist-broker) refl & by-num 6 int refl & no-more) 3 gn tt refl (
     calls rows-logged (kn .1) [] (by-val 1 (hasV uist-broker) refl & by-num 3 int refl & no-more) 4 gn tt refl (
     calls fold-turnover (kn .2) (0 ∷ []) (by-slice 2 0 (shrTy trade 0) shr refl & by-num 4 int refl & no-more) 5 gn (tt, tt) refl (
     calls turnover-read (kn .3) [] (by-float 5 real refl & by-num 3 int refl & no-more) 0 gn tt refl (
@@ -61,7 +61,7 @@ unfolding code.routine
 turnover-spec 𝓤 H 𝓜 𝓖 𝓡 =
     let w = world 𝓤 H 𝓜 𝓖 𝓡 in
     closes contract w code.env name code.function (code.unfolded 𝓤 H 𝓜 𝓡) (runs goal derived asked (under w code.env) (
-      knows-log-fault w code.env code.calls-lent·uist·log-fault,
+      knows-fault-for w code.env code.calls-broker·state·UistBroker·fault-for,
       knows-rows-logged w code.env code.calls-lent·uist·rows-logged,
       knows Contracts.fold-turnover w code.env "lent::folds::fold_turnover" fold-turnover-Symbol.routine code.calls-lent·folds·fold-turnover (fold-turnover-Met.met 𝓤 H 𝓜 𝓖 𝓡),
       knows-turnover-read w code.env code.calls-lent·uist·turnover-read,

@@ -5,18 +5,18 @@ use lib.Ieee.{Float}
 use Rattle.market.specs.Orders.{zero64}
 use Rattle.broker.specs.Read.{readFloat}
 use Rattle.broker.specs.declared.read.FloatRead.{FloatRead}
-use Rattle.lent.proofs.Faults.{unless-some, unless-none}
+use Rattle.market.proofs.Faults.{unless-some, unless-none}
 use Rattle.lent.proofs.uist.turnover_read.Statement.{statement}
 use Rattle.lent.proofs.uist.turnover_read.Tie as tie
 
 module _ (v : Float) (n : ℕ) where
-  refused : (n ≡ 0 → ⊥) → _≡_ {A = FloatRead} (record { value = zero64; number = n }) (readFloat v n)
+  refused : (n ≡ 0 → ⊥) → _≡_ {A = FloatRead} (record { value = zero64; fault = n }) (readFloat v n)
   unfolding readFloat
-  refused d = ap (λ (x : Float). record { value = x; number = n }) (unless-some n v zero64 d)
+  refused d = ap (λ (x : Float). record { value = x; fault = n }) (unless-some n v zero64 d)
 
-  read : n ≡ 0 → _≡_ {A = FloatRead} (record { value = v; number = n }) (readFloat v n)
+  read : n ≡ 0 → _≡_ {A = FloatRead} (record { value = v; fault = n }) (readFloat v n)
   unfolding readFloat
-  read z = ap (λ (x : Float). record { value = x; number = n }) (unless-none n v zero64 z)
+  read z = ap (λ (x : Float). record { value = x; fault = n }) (unless-none n v zero64 z)
 
 returns : tie.Need-returns
 returns c = refused _ _ (c .if1 .taken)

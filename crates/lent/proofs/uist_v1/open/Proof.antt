@@ -1,5 +1,5 @@
 -- `open`: the log's length goes to `UistV1::new`. Assumes nothing.
-use Rattle.walks.proofs.Walk.{Base, R, rV, rd, to, fr, gn, loc, part, shr-len, drop, sets, returns, Knows, _&_, no-more, int, by-num, calls, Contract, Task, task, Derives, Owes, runs, world, under, closes, refl, false, _≡_, [], _∷_, w64, named, field, pShrS, Sc, sInt}
+use Rattle.slices.proofs.Derivation.{Base, R, rV, rd, to, fr, gn, loc, part, shr-len, drop, sets, returns, Knows, _&_, no-more, int, by-num, calls, Contract, Task, task, Derives, Owes, runs, world, under, closes, refl, false, _≡_, [], _∷_, w64, named, field, pShrS, Sc, sInt}
 use Rattle.exchange.specs.Lent.{openOf}
 use Rattle.lent.proofs.Rows.{trade, uist-v1}
 use Rattle.lent.proofs.Callees.{new, knows-new}

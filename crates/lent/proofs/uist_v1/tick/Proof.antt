@@ -1,7 +1,7 @@
 -- `tick`: the table is read, the tick runs by value, and the log is lent on to the store loop. Assumes nothing.
-use Rattle.walks.proofs.Walk.{Base, R, ptrTo, shrTy, mutTy, pV, rV, same, hasV, freeV, hasA, freeA, to, fr, gn, part, mut-len, lent-len, drop, sets, units, begins, over, forgets, relends, joins, back, returns, Callee, Knows, _&_, no-more, int, shr, mut-slice, by-val, by-num, by-slice, by-mut-slice, calls, Contract, callee, Task, task, Derives, Owes, runs, world, under, closes, knows}
-use Rattle.walks.proofs.Walk.{_≡_, refl, sym, _∙_, ap, subst, false, List, [], _∷_, ℕ, _≤_, _+_, arith, length, Ty, w64, named, erased, mut, field, pShrS, pMutS, Sc, sInt, sUnit, lease}
-use Rattle.walks.proofs.Store as Store
+use Rattle.slices.proofs.Derivation.{Base, R, ptrTo, shrTy, mutTy, pV, rV, same, hasV, freeV, hasA, freeA, to, fr, gn, part, mut-len, lent-len, drop, sets, units, begins, over, forgets, relends, joins, back, returns, Callee, Knows, _&_, no-more, int, shr, mut-slice, by-val, by-num, by-slice, by-mut-slice, calls, Contract, callee, Task, task, Derives, Owes, runs, world, under, closes, knows}
+use Rattle.slices.proofs.Derivation.{_≡_, refl, sym, _∙_, ap, subst, false, List, [], _∷_, ℕ, _≤_, _+_, arith, length, Ty, w64, named, erased, mut, field, pShrS, pMutS, Sc, sInt, sUnit, lease}
+use Rattle.slices.proofs.Store as Store
 use lib.Seq.{paste}
 use Rattle.market.specs.Quotes.{tableOf}
 use Rattle.market.specs.declared.quote.Quote.{Quote}

@@ -1,6 +1,6 @@
 -- `load_weights`: the load loop at weights. Assumes nothing.
-use Rattle.walks.proofs.Walk.{closes, under, world}
-use Rattle.walks.proofs.Load as Load
+use Rattle.slices.proofs.Derivation.{closes, under, world}
+use Rattle.slices.proofs.Load as Load
 use Rattle.lent.proofs.UistRows.{weight}
 use Rattle.lent.proofs.weights.load_weights.Key.{name}
 use Rattle.lent.proofs.weights.load_weights.Code as code

@@ -1,6 +1,6 @@
 -- `read_weights`: four calls in a row; no row after the 257th counts. Assumes nothing.
-use Rattle.walks.proofs.Walk.{Base, shrTy, hasA, freeA, to, fr, gn, part, shr-len, drop, sets, returns, Callee, Knows, _&_, no-more, int, shr, by-val, by-num, by-slice, calls, callee, Task, task, Derives, Owes, runs, world, under, closes, knows, refl, List, [], _∷_, w64, named, field, Sc, sInt}
-use Rattle.walks.proofs.Load as Load
+use Rattle.slices.proofs.Derivation.{Base, shrTy, hasA, freeA, to, fr, gn, part, shr-len, drop, sets, returns, Callee, Knows, _&_, no-more, int, shr, by-val, by-num, by-slice, calls, callee, Task, task, Derives, Owes, runs, world, under, closes, knows, refl, List, [], _∷_, w64, named, field, Sc, sInt}
+use Rattle.slices.proofs.Load as Load
 use Rattle.market.specs.declared.weight.Weight.{Weight}
 use Rattle.lent.proofs.Reading.{read-fits}
 use Rattle.lent.proofs.Plans.{reads-weights}
@@ -48,5 +48,5 @@ read-weights-spec 𝓤 H 𝓜 𝓖 𝓡 =
       knows-rows-read w code.env code.calls-lent·tables·rows-read,
       knows-blank-weights w code.env code.calls-lent·weights·blank-weights,
       knows (Load.contract weight 257) w code.env "lent::weights::load_weights" load-weights-Symbol.routine code.calls-lent·weights·load-weights (load-weights-Met.met 𝓤 H 𝓜 𝓖 𝓡),
-      knows-weights-of w code.env code.calls-broker·weigh·Weights·of,
+      knows-weights-of w code.env code.calls-market·weight·Weights·of,
     ))

@@ -3,8 +3,8 @@ use mathlib.Core.Path.{_≡_, refl, ap, sym, _∙_}
 use mathlib.Core.Bool.{Bool, true, false, cond}
 use lib.Ieee.{Float, le}
 use borrow.Author.Needs.{needs}
-use Rattle.market.specs.Orders.{isSell}
-use Rattle.market.specs.Trades.{isMarket, rises, meetsKind, meetsRule}
+use Rattle.market.specs.Orders.{isSell, isMarket}
+use Rattle.market.specs.Trades.{rises, meetsKind, meetsRule}
 use Rattle.market.specs.declared.order.OrderType.{OrderType}
 use Rattle.market.specs.declared.order.OrderType.the-variants.{MarketSell, MarketBuy, LimitSell, LimitBuy, StopSell, StopBuy}
 use Rattle.market.proofs.trade.meets_rule.Statement.{statement}

@@ -9,9 +9,9 @@ use native.Mathlib.Omega.{arith}
 use lib.Ieee.{Float, nan, ne}
 use lib.ListN.{getD}
 use Rattle.market.specs.Orders.{zero64}
-use Rattle.broker.specs.State.{heldAt}
-use Rattle.broker.proofs.Symbols.{held-at}
-use Rattle.broker.proofs.Selling.{is-held, not-held}
+use Rattle.portfolio.specs.State.{heldAt}
+use Rattle.portfolio.proofs.Symbols.{held-at}
+use Rattle.portfolio.proofs.Selling.{is-held, not-held}
 use Rattle.reads.specs.Rows.{holdingOf, holdingRows}
 use Rattle.reads.proofs.Collecting.{Collects, collects-none, collects-row, collects-past, collects-all}
 use Rattle.reads.proofs.collected.held.Statement.{statement}

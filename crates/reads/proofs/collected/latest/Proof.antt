@@ -9,7 +9,7 @@ use lib.ListN.{getD}
 use Rattle.market.specs.Quotes.{noQuote, rowAt}
 use Rattle.market.specs.Trades.{rowIf}
 use Rattle.market.specs.declared.table.Table.{Table}
-use Rattle.broker.proofs.Symbols.{latest-at}
+use Rattle.portfolio.proofs.Symbols.{latest-at}
 use Rattle.reads.specs.Rows.{quoteRows}
 use Rattle.reads.proofs.Collecting.{Collects, collects-none, collects-row, collects-past, collects-all}
 use Rattle.reads.proofs.collected.latest.Statement.{statement}

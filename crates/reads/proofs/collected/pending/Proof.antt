@@ -4,13 +4,12 @@ use mathlib.Core.Path.{_≡_, ap, _∙_}
 use mathlib.Core.Bool.{Bool, true, false}
 use mathlib.Core.List.{List}
 use mathlib.Core.Logic.{⊎-elim}
-use mathlib.Core.Option.{none, some}
 use native.Mathlib.Omega.{arith}
 use lib.Ieee.{Float, nan}
 use lib.ListN.{getD}
 use Rattle.market.specs.Orders.{zero64}
-use Rattle.broker.specs.State.{pendingIf, pendingAt}
-use Rattle.broker.proofs.Symbols.{pending-at}
+use Rattle.portfolio.specs.State.{pendingIf, pendingAt}
+use Rattle.portfolio.proofs.Symbols.{pending-at}
 use Rattle.reads.specs.Rows.{holdingOf, pendingRows}
 use Rattle.reads.proofs.Collecting.{Collects, collects-none, collects-row, collects-past, collects-all}
 use Rattle.reads.proofs.collected.pending.Statement.{statement}

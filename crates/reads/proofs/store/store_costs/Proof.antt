@@ -1,6 +1,6 @@
 -- `store_costs`: the store loop at costs. Assumes nothing.
-use Rattle.walks.proofs.Walk.{closes, under, world}
-use Rattle.walks.proofs.Store as Store
+use Rattle.slices.proofs.Derivation.{closes, under, world}
+use Rattle.slices.proofs.Store as Store
 use Rattle.reads.proofs.RowTypes.{cost}
 use Rattle.reads.proofs.store.store_costs.Key.{name}
 use Rattle.reads.proofs.store.store_costs.Code as code

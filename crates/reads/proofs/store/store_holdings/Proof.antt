@@ -1,6 +1,6 @@
 -- `store_holdings`: the store loop at holdings. Assumes nothing.
-use Rattle.walks.proofs.Walk.{closes, under, world}
-use Rattle.walks.proofs.Store as Store
+use Rattle.slices.proofs.Derivation.{closes, under, world}
+use Rattle.slices.proofs.Store as Store
 use Rattle.reads.proofs.RowTypes.{holding}
 use Rattle.reads.proofs.store.store_holdings.Key.{name}
 use Rattle.reads.proofs.store.store_holdings.Code as code

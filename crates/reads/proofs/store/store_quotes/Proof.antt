@@ -1,6 +1,6 @@
 -- `store_quotes`: the store loop at quotes. Assumes nothing.
-use Rattle.walks.proofs.Walk.{closes, under, world}
-use Rattle.walks.proofs.Store as Store
+use Rattle.slices.proofs.Derivation.{closes, under, world}
+use Rattle.slices.proofs.Store as Store
 use Rattle.lent.proofs.Rows.{quote}
 use Rattle.reads.proofs.store.store_quotes.Key.{name}
 use Rattle.reads.proofs.store.store_quotes.Code as code

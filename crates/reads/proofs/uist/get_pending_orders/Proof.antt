@@ -1,6 +1,6 @@
 -- `get_pending_orders`: the read to a lent list at what is pending. Assumes nothing.
-use Rattle.walks.proofs.Walk.{closes, knows, under, world}
-use Rattle.walks.proofs.Store as Store
+use Rattle.slices.proofs.Derivation.{closes, knows, under, world}
+use Rattle.slices.proofs.Store as Store
 use Rattle.reads.proofs.Lending as Lending
 use Rattle.reads.proofs.Public.{pending-orders as it}
 use Rattle.reads.proofs.collected.pending.Symbol as pending-Symbol

@@ -7,7 +7,7 @@ use lib.Ieee.{nan}
 use lib.ListN.{length, length-map}
 use borrow.Author.Needs.{needs}
 use Rattle.rules.specs.Money.{Money}
-use Rattle.broker.specs.State.{moneyOf}
+use Rattle.portfolio.specs.State.{moneyOf}
 use Rattle.reads.specs.Rows.{Keeps, holdingOf, positionRows, holdingRows}
 use Rattle.reads.specs.declared.collected.Holding.{Holding}
 use Rattle.reads.specs.declared.collected.HoldingList.{HoldingList}

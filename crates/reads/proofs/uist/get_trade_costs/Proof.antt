@@ -1,6 +1,6 @@
 -- `get_trade_costs`: the read to a lent list at the broker's costs. Assumes nothing.
-use Rattle.walks.proofs.Walk.{closes, knows, under, world}
-use Rattle.walks.proofs.Store as Store
+use Rattle.slices.proofs.Derivation.{closes, knows, under, world}
+use Rattle.slices.proofs.Store as Store
 use Rattle.reads.proofs.Lending as Lending
 use Rattle.reads.proofs.Public.{costs as it}
 use Rattle.reads.proofs.collected.charged.Symbol as charged-Symbol

@@ -1,26 +1,31 @@
--- `list_read` meets its contract: each return is the tests on its path.
-use mathlib.Core.Path.{sym, _∙_}
+-- `list_read` meets its contract: the lender's number, and no rows where one is drawn.
+use Prim.Native.Nat.{ℕ}
+use mathlib.Core.Path.{_≡_, ap, _∙_}
 use borrow.Author.Needs.{needs}
-use borrow.Author.Tests.{lt-ltb, le-ltb}
-use Rattle.market.specs.Numbers.{drawn}
-use Rattle.reads.specs.Answers.{listNumber, readOf}
+use Rattle.market.specs.Faults.{unlessDrawn}
+use Rattle.broker.specs.declared.state.UistBroker.{UistBroker}
+use Rattle.reads.specs.Answers.{listFault, readOf}
+use Rattle.reads.specs.declared.uist.ListRead.{ListRead}
 use Rattle.reads.proofs.uist.list_read.Statement.{statement}
 use Rattle.reads.proofs.uist.list_read.Tie as tie
 
-broken-requires : tie.Need-broken-requires
-broken-requires c κs = search needs
+-- what is answered, by the number drawn
+abbrev answered : ℕ → ℕ → ListRead
+answered count n = record { count = unlessDrawn n count 0; fault = n }
+
+read-by : (b : UistBroker) (count room n k : ℕ) → n ≡ listFault b count room → k ≡ unlessDrawn n count 0 → record { count = k; fault = n } ≡ readOf b count room
+unfolding readOf
+read-by b count room n k e q = ap (λ (j : ℕ). record { count = j; fault = n }) q ∙ ap (answered count) e
+
+lender-fault-requires : tie.Need-lender-fault-requires
+lender-fault-requires c κs = search needs
+
+count-unless-requires : tie.Need-count-unless-requires
+count-unless-requires c κs = search needs
 
 returns : tie.Need-returns
-unfolding drawn listNumber readOf
-returns c = simp (sym (c .before .broken .ensures) ∙ c .if1 .taken)
-
-returns-2 : tie.Need-returns-2
-unfolding drawn listNumber readOf
-returns-2 c = simp (sym (c .before .before .broken .ensures) ∙ c .before .if1 .left, lt-ltb _ _ (c .if2 .taken))
-
-returns-3 : tie.Need-returns-3
-unfolding drawn listNumber readOf
-returns-3 c = simp (sym (c .before .before .broken .ensures) ∙ c .before .if1 .left, le-ltb _ _ (c .if2 .left))
+unfolding listFault
+returns c = let a = c .before .before .args in read-by (a .broker) (a .count) (a .room) _ _ (c .before .lender-fault .ensures) (c .count-unless .ensures)
 
 pub list-read-spec : {M : Type 1} → statement M
-list-read-spec = tie.close (tie.spec broken-requires returns returns-2 returns-3)
+list-read-spec = tie.close (tie.spec lender-fault-requires count-unless-requires returns)

@@ -3,15 +3,15 @@ use Prim.Native.Nat.{ℕ, zero, suc}
 use mathlib.Core.Path.{_≡_, refl, ap, _∙_}
 use native.Mathlib.Omega.{arith}
 use borrow.Author.Needs.{needs}
-use Rattle.market.specs.Numbers.{drawn, unlessDrawn}
+use Rattle.market.specs.Faults.{drawn, unlessDrawn}
 use Rattle.market.specs.declared.table.Table.{Table}
 use Rattle.costs.specs.Kept.{costsOf}
 use Rattle.costs.specs.declared.TradeCosts.{TradeCosts}
 use Rattle.exchange.specs.State.{fresh}
 use Rattle.exchange.specs.declared.state.UistV1.{UistV1}
-use Rattle.broker.specs.State.{noFunds}
+use Rattle.portfolio.specs.State.{noFunds}
 use Rattle.broker.specs.Build.{costTests, noBroker, freshBroker, buildOf}
-use Rattle.broker.specs.declared.state.Funds.{Funds}
+use Rattle.portfolio.specs.declared.state.Funds.{Funds}
 use Rattle.broker.specs.declared.state.UistBroker.{UistBroker}
 use Rattle.broker.specs.declared.build.Built.{Built}
 use Rattle.broker.proofs.state.UistBroker.build.Statement.{statement}
@@ -20,7 +20,7 @@ use Rattle.broker.proofs.state.UistBroker.build.Tie as tie
 module _ (costs : TradeCosts) (first : Table) (room : ℕ) where
   -- the answer by its number
   abbrev answer : ℕ → Built
-  answer n = record { broker = unlessDrawn n (freshBroker costs first room) noBroker; number = n }
+  answer n = record { broker = unlessDrawn n (freshBroker costs first room) noBroker; fault = n }
 
   -- the answer by the number that the costs draw
   abbrev by-costs : ℕ → Built
@@ -30,11 +30,11 @@ module _ (costs : TradeCosts) (first : Table) (room : ℕ) where
   unfolding buildOf
   by-drawn k d = ap by-costs d
 
-  refused : (b : UistBroker) (n : ℕ) → b ≡ noBroker → (n ≡ 0 → ⊥) → record { broker = b; number = n } ≡ answer n
+  refused : (b : UistBroker) (n : ℕ) → b ≡ noBroker → (n ≡ 0 → ⊥) → record { broker = b; fault = n } ≡ answer n
   refused b zero e h = absurd (h refl)
-  refused b (suc n) e h = ap (λ (x : UistBroker). record { broker = x; number = suc n }) e
+  refused b (suc n) e h = ap (λ (x : UistBroker). record { broker = x; fault = suc n }) e
 
-  bad-costs : (b : UistBroker) (k : ℕ) → b ≡ noBroker → (k ≡ 0 → ⊥) → record { broker = b; number = k } ≡ by-costs k
+  bad-costs : (b : UistBroker) (k : ℕ) → b ≡ noBroker → (k ≡ 0 → ⊥) → record { broker = b; fault = k } ≡ by-costs k
   bad-costs b zero e h = absurd (h refl)
   bad-costs b (suc k) e h = refused b (suc k) e h
 
@@ -43,7 +43,7 @@ module _ (costs : TradeCosts) (first : Table) (room : ℕ) where
   good-costs (suc k) z = absurd (omega arith)
 
   built : (x : UistV1) (f : Funds) (n : ℕ) → x ≡ fresh room → f ≡ noFunds → n ≡ 0 →
-      record { broker = record { exchange = x; portfolio = record { latest = first; funds = f; costs = costs } }; number = 0 } ≡ answer n
+      record { broker = record { exchange = x; portfolio = record { latest = first; funds = f; costs = costs } }; fault = 0 } ≡ answer n
   built x f n p q z = rw (p, q, z)
 
 -- the table that was read

@@ -11,7 +11,7 @@ use Rattle.broker.proofs.state.UistBroker.delete_order.Statement.{state
 use Rattle.broker.proofs.state.UistBroker.delete_order.Tie as tie
 
 abbrev answered : UistBroker → Deleted → BrokerDeleted
-answered b r = record { broker = record { exchange = r .exchange; portfolio = b .portfolio }; number = r .number }
+answered b r = record { broker = record { exchange = r .exchange; portfolio = b .portfolio }; fault = r .fault }
 
 deleted : (b : UistBroker) (n : ℕ) (r : Deleted) → r ≡ Deletion.deleteOf (b .exchange) n → answered b r ≡ deleteOf b n
 unfolding deleteOf

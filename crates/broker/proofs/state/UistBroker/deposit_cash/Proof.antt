@@ -7,27 +7,28 @@ use borrow.Author.Needs.{needs}
 use borrow.Author.Tests.{not-true, not-false}
 use Rattle.account.specs.Account.{creditOf}
 use Rattle.account.specs.declared.Moved.{Moved}
-use Rattle.exchange.specs.State.{brokenOf}
+use Rattle.broker.specs.Lender.{broken}
 use Rattle.broker.specs.Cash.{withCash, cashOf, answered, cashMoved, depositOf}
 use Rattle.broker.specs.declared.state.UistBroker.{UistBroker}
+use Rattle.broker.proofs.Drawing.{drew, passed}
 use Rattle.broker.proofs.Cashing.{deposits}
 use Rattle.broker.proofs.state.UistBroker.deposit_cash.Statement.{statement}
 use Rattle.broker.proofs.state.UistBroker.deposit_cash.Tie as tie
 
-deposited : (b : UistBroker) (a : Float) (m : Moved) (b′ : UistBroker) → brokenOf (b .exchange .counts) ≡ false → finite a ≡ true → b .portfolio .funds .failed ≡ false →
+deposited : (b : UistBroker) (a : Float) (m : Moved) (b′ : UistBroker) → broken b ≡ false → finite a ≡ true → b .portfolio .funds .failed ≡ false →
     m ≡ creditOf (cashOf b) a → b′ ≡ withCash b (m .cash) → answered b′ (m .event) ≡ depositOf b a
 unfolding creditOf cashMoved depositOf
 deposited b a m b′ h f g p q =
     ap (λ (x : UistBroker). answered x (m .event)) q ∙ ap (λ (x : Moved). answered (withCash b (x .cash)) (x .event)) p ∙ rw (h, f, g)
 
-broken-requires : tie.Need-broken-requires
-broken-requires c κs = search needs
+fault-requires : tie.Need-fault-requires
+fault-requires c κs = search needs
 
 returns : tie.Need-returns
 unfolding cashMoved depositOf
 returns c =
-    let a = c .before .before .before .before .before .before .args in
-    deposits (a .self) (a .cash) _ (simp (sym (c .before .broken .ensures) ∙ c .if1 .taken))
+    let a = c .before .before .before .before .args in
+    deposits (a .self) (a .cash) _ (simp (drew _ _ (c .before .fault .ensures) (c .if1 .taken)))
 
 finite-requires : tie.Need-finite-requires
 finite-requires c κs = search needs
@@ -36,16 +37,16 @@ returns-2 : tie.Need-returns-2
 unfolding cashMoved depositOf
 returns-2 c =
     let else = c .before .before in
-    let a = else .before .before .before .before .before .before .args in
-    deposits (a .self) (a .cash) _ (simp (sym (else .before .broken .ensures) ∙ else .if1 .left, sym (c .before .finite .ensures) ∙ not-true _ (c .if2 .taken)))
+    let a = else .before .before .before .before .args in
+    deposits (a .self) (a .cash) _ (simp (passed _ _ (else .before .fault .ensures) (else .if1 .left), sym (c .before .finite .ensures) ∙ not-true _ (c .if2 .taken)))
 
 returns-3 : tie.Need-returns-3
 unfolding cashMoved depositOf
 returns-3 c =
     let else = c .before .before .before in
-    let a = else .before .before .before .before .before .before .args in
+    let a = else .before .before .before .before .args in
     deposits (a .self) (a .cash) _ (simp (
-      sym (else .before .broken .ensures) ∙ else .if1 .left,
+      passed _ _ (else .before .fault .ensures) (else .if1 .left),
       sym (c .before .before .finite .ensures) ∙ not-false _ (c .before .if2 .left),
       c .if3 .taken,
     ))
@@ -62,7 +63,7 @@ returns-4 c =
     let else1 = else .before .before .before in
     deposits _ _ _ (
     deposited _ _ _ _
-    (sym (else1 .before .broken .ensures) ∙ else1 .if1 .left)
+    (passed _ _ (else1 .before .fault .ensures) (else1 .if1 .left))
     (sym (else .before .before .finite .ensures) ∙ not-false _ (else .before .if2 .left))
     (else .if3 .left)
     (c .before .credited .ensures .0)
@@ -72,7 +73,7 @@ pub deposit-cash-spec : {M : Type 1} → statement M
 deposit-cash-spec =
     tie.close
     (tie.spec
-    broken-requires
+    fault-requires
     returns
     finite-requires
     returns-2

@@ -5,14 +5,14 @@ use Rattle.broker.specs.Read.{readFloat}
 use Rattle.broker.proofs.state.UistBroker.get_cash_balance.Statement.{statement}
 use Rattle.broker.proofs.state.UistBroker.get_cash_balance.Tie as tie
 
-broker-fault-requires : tie.Need-broker-fault-requires
-broker-fault-requires c κs = search needs
+fault-requires : tie.Need-fault-requires
+fault-requires c κs = search needs
 
 float-read-requires : tie.Need-float-read-requires
 float-read-requires c κs = search needs
 
 returns : tie.Need-returns
-returns c = c .float-read .ensures ∙ ap (readFloat _) (c .before .broker-fault .ensures)
+returns c = c .float-read .ensures ∙ ap (readFloat _) (c .before .fault .ensures)
 
 pub get-cash-balance-spec : {M : Type 1} → statement M
-get-cash-balance-spec = tie.close (tie.spec broker-fault-requires float-read-requires returns)
+get-cash-balance-spec = tie.close (tie.spec fault-requires float-read-requires returns)

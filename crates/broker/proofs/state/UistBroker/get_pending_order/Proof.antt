@@ -8,8 +8,8 @@ use lib.Ieee.{Float, nan}
 use lib.ListN.{getD}
 use borrow.Author.Needs.{needs}
 use borrow.Author.Tests.{lt-ltb}
-use Rattle.broker.specs.State.{pendingAt}
-use Rattle.broker.specs.Read.{symbolNumber}
+use Rattle.portfolio.specs.State.{pendingAt}
+use Rattle.broker.specs.Read.{symbolFault}
 use Rattle.broker.proofs.Drawing.{unless-some, unless-none, symbol-within}
 use Rattle.broker.proofs.state.UistBroker.get_pending_order.Statement.{statement}
 use Rattle.broker.proofs.state.UistBroker.get_pending_order.Tie as tie
@@ -27,37 +27,37 @@ symbol-fault-requires c κs = search needs
 returns : tie.Need-returns
 returns c =
     let e = c .before .symbol-fault .ensures in
-    record { amount = sym (unless-some _ _ _ (λ z. c .if1 .taken (e ∙ z))); number = e }
+    record { amount = sym (unless-some _ _ _ (λ z. c .if1 .taken (e ∙ z))); fault = e }
 
 drew-none : (c : tie.Else1) →
-    let args = c .before .before .before .before .before .args in
-    symbolNumber (args .self .exchange .counts) (args .symbol) ≡ 0
+    let args = c .before .before .before .before .args in
+    symbolFault (args .self) (args .symbol) ≡ 0
 drew-none c = sym (c .before .symbol-fault .ensures) ∙ c .if1 .left
 
-within : (c : tie.Else1) → c .before .before .before .before .before .args .symbol < 256
+within : (c : tie.Else1) → c .before .before .before .before .args .symbol < 256
 within c = symbol-within _ _ (drew-none c)
 
 element-copy-out-if2 : tie.Need-element-copy-out-if2
 element-copy-out-if2 c = within c
 
-mul-t13 : tie.Need-mul-t13
-mul-t13 c = search needs
+mul-t12 : tie.Need-mul-t12
+mul-t12 c = search needs
 
-element-copy-out-t16 : tie.Need-element-copy-out-t16
-element-copy-out-t16 c = within (c .before .before)
+element-copy-out-t15 : tie.Need-element-copy-out-t15
+element-copy-out-t15 c = within (c .before .before)
 
 returns-2 : tie.Need-returns-2
 returns-2 c =
     let if2 = c .before in
     let else = if2 .before .before in
-    let p = else .before .before .before .before .before .args .self .portfolio in
-    record { amount = pending-there (p .funds .awaited) (p .funds .pending) _ (within else) (if2 .if2 .taken) ∙ sym (unless-none _ _ none (drew-none else)); number = sym (drew-none else) }
+    let p = else .before .before .before .before .args .self .portfolio in
+    record { amount = pending-there (p .funds .awaited) (p .funds .pending) _ (within else) (if2 .if2 .taken) ∙ sym (unless-none _ _ none (drew-none else)); fault = sym (drew-none else) }
 
 returns-3 : tie.Need-returns-3
 returns-3 c =
     let else = c .before .before in
-    let p = else .before .before .before .before .before .args .self .portfolio in
-    record { amount = nothing-there (p .funds .awaited) (p .funds .pending) _ (within else) (c .if2 .left) ∙ sym (unless-none _ _ none (drew-none else)); number = sym (drew-none else) }
+    let p = else .before .before .before .before .args .self .portfolio in
+    record { amount = nothing-there (p .funds .awaited) (p .funds .pending) _ (within else) (c .if2 .left) ∙ sym (unless-none _ _ none (drew-none else)); fault = sym (drew-none else) }
 
 pub get-pending-order-spec : {M : Type 1} → statement M
 get-pending-order-spec =
@@ -66,7 +66,7 @@ get-pending-order-spec =
     symbol-fault-requires
     returns
     element-copy-out-if2
-    mul-t13
-    element-copy-out-t16
+    mul-t12
+    element-copy-out-t15
     returns-2
     returns-3)

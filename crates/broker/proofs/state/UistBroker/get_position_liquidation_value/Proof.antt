@@ -5,11 +5,11 @@ use mathlib.Core.Option.{Option, none}
 use mathlib.Core.Path.{_≡_, refl, ap, _∙_}
 use lib.Ieee.{Float}
 use borrow.Author.Needs.{needs}
-use Rattle.market.specs.Numbers.{unlessDrawn}
+use Rattle.market.specs.Faults.{unlessDrawn}
 use Rattle.costs.specs.declared.BrokerCost.{BrokerCost}
 use Rattle.costs.specs.Kept.{costsOf}
-use Rattle.broker.specs.State.{soldFor}
-use Rattle.broker.specs.Read.{symbolNumber, valueHere}
+use Rattle.portfolio.specs.State.{soldFor}
+use Rattle.broker.specs.Read.{symbolFault, valueHere}
 use Rattle.broker.proofs.state.UistBroker.get_position_liquidation_value.Statement.{
   statement,
 }
@@ -32,8 +32,8 @@ returns c =
     let a = c .before .before .before .args in
     let costs = costsOf (a .self .portfolio .costs) in
     record {
-      amount = c .sold .ensures ∙ ap (soldFor costs) (v .amount) ∙ sold-unless costs (symbolNumber (a .self .exchange .counts) (a .symbol)) (valueHere (a .self) (a .symbol));
-      number = v .number;
+      amount = c .sold .ensures ∙ ap (soldFor costs) (v .amount) ∙ sold-unless costs (symbolFault (a .self) (a .symbol)) (valueHere (a .self) (a .symbol));
+      fault = v .fault;
     }
 
 pub get-position-liquidation-value-spec : {M : Type 1} → statement M

@@ -9,8 +9,8 @@ use lib.ListN.{getD}
 use borrow.Author.Needs.{needs}
 use borrow.Author.Tests.{lt-ltb}
 use Rattle.rules.specs.Amounts.{isZero}
-use Rattle.broker.specs.State.{heldAt}
-use Rattle.broker.specs.Read.{symbolNumber}
+use Rattle.portfolio.specs.State.{heldAt}
+use Rattle.broker.specs.Read.{symbolFault}
 use Rattle.broker.proofs.Drawing.{unless-some, unless-none, symbol-within}
 use Rattle.broker.proofs.state.UistBroker.get_position_qty.Statement.{statement}
 use Rattle.broker.proofs.state.UistBroker.get_position_qty.Tie as tie
@@ -28,14 +28,14 @@ symbol-fault-requires c κs = search needs
 returns : tie.Need-returns
 returns c =
     let e = c .before .symbol-fault .ensures in
-    record { amount = sym (unless-some _ _ _ (λ z. c .if1 .taken (e ∙ z))); number = e }
+    record { amount = sym (unless-some _ _ _ (λ z. c .if1 .taken (e ∙ z))); fault = e }
 
 drew-none : (c : tie.Else1) →
-    let args = c .before .before .before .before .before .args in
-    symbolNumber (args .self .exchange .counts) (args .symbol) ≡ 0
+    let args = c .before .before .before .before .args in
+    symbolFault (args .self) (args .symbol) ≡ 0
 drew-none c = sym (c .before .symbol-fault .ensures) ∙ c .if1 .left
 
-within : (c : tie.Else1) → c .before .before .before .before .before .args .symbol < 256
+within : (c : tie.Else1) → c .before .before .before .before .args .symbol < 256
 within c = symbol-within _ _ (drew-none c)
 
 mul-holding : tie.Need-mul-holding
@@ -47,14 +47,14 @@ element-copy-out-holding c = within c
 returns-2 : tie.Need-returns-2
 returns-2 c =
     let else = c .before .before in
-    let p = else .before .before .before .before .before .args .self .portfolio in
-    record { amount = not-held (p .funds .holding) _ (within else) (c .if2 .taken) ∙ sym (unless-none _ _ none (drew-none else)); number = sym (drew-none else) }
+    let p = else .before .before .before .before .args .self .portfolio in
+    record { amount = not-held (p .funds .holding) _ (within else) (c .if2 .taken) ∙ sym (unless-none _ _ none (drew-none else)); fault = sym (drew-none else) }
 
 returns-3 : tie.Need-returns-3
 returns-3 c =
     let else = c .before .before in
-    let p = else .before .before .before .before .before .args .self .portfolio in
-    record { amount = held (p .funds .holding) _ (within else) (c .if2 .left) ∙ sym (unless-none _ _ none (drew-none else)); number = sym (drew-none else) }
+    let p = else .before .before .before .before .args .self .portfolio in
+    record { amount = held (p .funds .holding) _ (within else) (c .if2 .left) ∙ sym (unless-none _ _ none (drew-none else)); fault = sym (drew-none else) }
 
 pub get-position-qty-spec : {M : Type 1} → statement M
 get-position-qty-spec =

@@ -3,8 +3,8 @@ use Prim.Native.Nat.{_<_}
 use mathlib.Core.Option.{none}
 use mathlib.Core.Path.{_≡_, sym, _∙_}
 use borrow.Author.Needs.{needs}
-use Rattle.broker.specs.Read.{symbolNumber}
-use Rattle.broker.proofs.Symbols.{value-read}
+use Rattle.broker.specs.Read.{symbolFault}
+use Rattle.portfolio.proofs.Symbols.{value-read}
 use Rattle.broker.proofs.Drawing.{unless-some, unless-none, symbol-within}
 use Rattle.broker.proofs.state.UistBroker.get_position_value.Statement.{statement}
 use Rattle.broker.proofs.state.UistBroker.get_position_value.Tie as tie
@@ -15,14 +15,14 @@ symbol-fault-requires c κs = search needs
 returns : tie.Need-returns
 returns c =
     let e = c .before .symbol-fault .ensures in
-    record { amount = sym (unless-some _ _ _ (λ z. c .if1 .taken (e ∙ z))); number = e }
+    record { amount = sym (unless-some _ _ _ (λ z. c .if1 .taken (e ∙ z))); fault = e }
 
 drew-none : (c : tie.Else1) →
-    let args = c .before .before .before .before .before .before .args in
-    symbolNumber (args .self .exchange .counts) (args .symbol) ≡ 0
+    let args = c .before .before .before .before .before .args in
+    symbolFault (args .self) (args .symbol) ≡ 0
 drew-none c = sym (c .before .symbol-fault .ensures) ∙ c .if1 .left
 
-within : (c : tie.Else1) → c .before .before .before .before .before .before .args .symbol < 256
+within : (c : tie.Else1) → c .before .before .before .before .before .args .symbol < 256
 within c = symbol-within _ _ (drew-none c)
 
 mul-q : tie.Need-mul-q
@@ -46,8 +46,8 @@ value-at-requires c κs = search needs
 returns-2 : tie.Need-returns-2
 returns-2 c =
     let else = c .before .before .before .before in
-    let p = else .before .before .before .before .before .before .args .self .portfolio in
-    record { amount = c .value-at .ensures ∙ sym (value-read (p .latest) (p .funds .holding) _ (within else)) ∙ sym (unless-none _ _ none (drew-none else)); number = sym (drew-none else) }
+    let p = else .before .before .before .before .before .args .self .portfolio in
+    record { amount = c .value-at .ensures ∙ sym (value-read (p .latest) (p .funds .holding) _ (within else)) ∙ sym (unless-none _ _ none (drew-none else)); fault = sym (drew-none else) }
 
 pub get-position-value-spec : {M : Type 1} → statement M
 get-position-value-spec =

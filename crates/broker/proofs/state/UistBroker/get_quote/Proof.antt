@@ -8,7 +8,7 @@ use borrow.Author.Needs.{needs}
 use borrow.Author.Tests.{lt-ltb}
 use Rattle.market.specs.Quotes.{noQuote, rowAt}
 use Rattle.market.specs.declared.table.Table.{Table}
-use Rattle.broker.specs.Read.{symbolNumber}
+use Rattle.broker.specs.Read.{symbolFault}
 use Rattle.broker.proofs.Drawing.{unless-some, unless-none, symbol-within}
 use Rattle.broker.proofs.state.UistBroker.get_quote.Statement.{statement}
 use Rattle.broker.proofs.state.UistBroker.get_quote.Tie as tie
@@ -26,14 +26,14 @@ symbol-fault-requires c κs = search needs
 returns : tie.Need-returns
 returns c =
     let e = c .before .symbol-fault .ensures in
-    record { latest = sym (unless-some _ _ _ (λ z. c .if1 .taken (e ∙ z))); number = e }
+    record { latest = sym (unless-some _ _ _ (λ z. c .if1 .taken (e ∙ z))); fault = e }
 
 drew-none : (c : tie.Else1) →
-    let args = c .before .before .before .before .before .args in
-    symbolNumber (args .self .exchange .counts) (args .symbol) ≡ 0
+    let args = c .before .before .before .before .args in
+    symbolFault (args .self) (args .symbol) ≡ 0
 drew-none c = sym (c .before .symbol-fault .ensures) ∙ c .if1 .left
 
-within : (c : tie.Else1) → c .before .before .before .before .before .args .symbol < 256
+within : (c : tie.Else1) → c .before .before .before .before .args .symbol < 256
 within c = symbol-within _ _ (drew-none c)
 
 element-copy-out-if2 : tie.Need-element-copy-out-if2
@@ -49,14 +49,14 @@ returns-2 : tie.Need-returns-2
 returns-2 c =
     let if2 = c .before in
     let else = if2 .before .before in
-    let p = else .before .before .before .before .before .args .self .portfolio in
-    record { latest = quoted (p .latest) _ (within else) (if2 .if2 .taken) ∙ sym (unless-none _ _ none (drew-none else)); number = sym (drew-none else) }
+    let p = else .before .before .before .before .args .self .portfolio in
+    record { latest = quoted (p .latest) _ (within else) (if2 .if2 .taken) ∙ sym (unless-none _ _ none (drew-none else)); fault = sym (drew-none else) }
 
 returns-3 : tie.Need-returns-3
 returns-3 c =
     let else = c .before .before in
-    let p = else .before .before .before .before .before .args .self .portfolio in
-    record { latest = unquoted (p .latest) _ (within else) (c .if2 .left) ∙ sym (unless-none _ _ none (drew-none else)); number = sym (drew-none else) }
+    let p = else .before .before .before .before .args .self .portfolio in
+    record { latest = unquoted (p .latest) _ (within else) (c .if2 .left) ∙ sym (unless-none _ _ none (drew-none else)); fault = sym (drew-none else) }
 
 pub get-quote-spec : {M : Type 1} → statement M
 get-quote-spec =

@@ -15,9 +15,9 @@ use Rattle.broker.proofs.state.UistBroker.insert_order.Tie as tie
 abbrev answered : UistBroker → Inserted → OrderEvent → Sent
 answered b r e = record { broker = record { exchange = r .exchange; portfolio = b .portfolio }; event = e }
 
-inserted : (b : UistBroker) (o : Order) (r : Inserted) (e : OrderEvent) → r ≡ Exchange.insertOf (b .exchange) o → e ≡ eventOf o (r .number) → answered b r e ≡ insertOf b o
+inserted : (b : UistBroker) (o : Order) (r : Inserted) (e : OrderEvent) → r ≡ Exchange.insertOf (b .exchange) o → e ≡ eventOf o (r .fault) → answered b r e ≡ insertOf b o
 unfolding insertOf
-inserted b o r e p q = ap (answered b r) q ∙ ap (λ (x : Inserted). answered b x (eventOf o (x .number))) p
+inserted b o r e p q = ap (answered b r) q ∙ ap (λ (x : Inserted). answered b x (eventOf o (x .fault))) p
 
 insert-order-requires : tie.Need-insert-order-requires
 insert-order-requires c κs = search needs

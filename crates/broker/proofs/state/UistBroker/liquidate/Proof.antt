@@ -2,7 +2,7 @@
 use mathlib.Core.Path.{ap, _∙_}
 use borrow.Author.Needs.{needs}
 use Rattle.account.specs.declared.Moved.{Moved}
-use Rattle.broker.specs.Send.{listed}
+use Rattle.portfolio.specs.Lists.{listed}
 use Rattle.broker.proofs.Selling.{sent-grows, debits, liquidates-sent, liquidates-not}
 use Rattle.broker.proofs.state.UistBroker.liquidate.Statement.{statement}
 use Rattle.broker.proofs.state.UistBroker.liquidate.Tie as tie

@@ -1,14 +1,15 @@
 -- `UistBroker::queue_all` meets its contract as `send_all` does: its events are told nobody. Assumes nothing.
-use Prim.Native.Nat.{_-_}
+use Prim.Native.Nat.{_-_, _<_}
 use mathlib.Core.Path.{_≡_, refl, sym, ap, _∙_}
 use mathlib.Core.List.{List}
 use mathlib.Core.Logic.{⊎-elim}
 use native.Mathlib.Omega.{arith}
 use lib.ListN.{length-map, length-take}
 use borrow.Author.Needs.{needs}
-use Rattle.broker.specs.declared.state.Portfolio.{Portfolio}
+use Rattle.exchange.proofs.Counting.{Free, join-place, join-book, join-counts}
+use Rattle.portfolio.specs.declared.state.Portfolio.{Portfolio}
 use Rattle.broker.specs.declared.state.UistBroker.{UistBroker}
-use Rattle.broker.proofs.Sending.{OneFits, brokerWith, event-for, fits-here, takes-parts, passes-parts, Inv, starts, sends-one, all-sent}
+use Rattle.broker.proofs.Sending.{brokerWith, event-for, fits-here, takes-parts, passes-parts, Inv, starts, sends-one, all-sent}
 use Rattle.market.specs.declared.order.Order.{Order}
 use Rattle.broker.specs.Send.{sentAll, sendAllOf}
 use Rattle.market.specs.declared.order.OrderEvent.{OrderEvent}
@@ -67,26 +68,26 @@ present c =
     brokerWith (portfolio .latest) (portfolio .costs) (portfolio .funds) (c .loop .book) (c .loop .counts) (c .loop .pending) (c .loop .awaited)
 
 -- the order is taken only where one more fits
-fits : (c : tie.Then2 Inv-loop μ-loop) → OneFits (c .before .before .before .before .before .before .before .before .before .before .loop .counts)
+fits : (c : tie.Then2 Inv-loop μ-loop) → Free (c .before .before .before .before .before .before .before .before .before .before .loop .counts)
 fits c =
     let sent = c .before .before in
     let turn = sent .before .before .before .before .before .before .before .before in
     fits-here (present turn) _ _ (sent .send-event .ensures) (turn .loop .inv .1 .fits) (c .if2 .taken)
 
-add-place : tie.Need-add-place Inv-loop μ-loop
-add-place c = omega (arith, fits (c .before))
+join-requires : tie.Need-join-requires Inv-loop μ-loop
+join-requires c κs = search needs
+
+waiting-requires : tie.Need-waiting-requires Inv-loop μ-loop
+waiting-requires c κs = search needs
+
+place : (c : tie.After-join Inv-loop μ-loop) → c .join .result .at < 1024
+place c = join-place (present (c .before .before .before .before .before .before .before .before .before .before .before) .exchange) _ (c .join .ensures) (fits (c .before))
 
 mul-book : tie.Need-mul-book Inv-loop μ-loop
-mul-book c = omega (arith, fits (c .before))
+mul-book c = omega (arith, place (c .before))
 
 array-set-from-book : tie.Need-array-set-from-book Inv-loop μ-loop
-array-set-from-book c = omega (arith, fits (c .before))
-
-add-counts : tie.Need-add-counts Inv-loop μ-loop
-add-counts c = omega (arith, fits (c .before .before))
-
-add-counts-2 : tie.Need-add-counts-2 Inv-loop μ-loop
-add-counts-2 c = omega (arith, fits (c .before .before .before))
+array-set-from-book c = place (c .before)
 
 array-read-pending-after : tie.Need-array-read-pending-after Inv-loop μ-loop
 array-read-pending-after c = omega arith
@@ -123,7 +124,10 @@ loop-again c =
     let e = sent .send-event .ensures in (
       _,
       sends-one _ _ _ _ _ (turn .loop .inv .1) (more .before .loop-test .taken) (more .if1 .left) _ _ (event-for _ _ _ e)
-          (⊎-elim (λ w. takes-parts _ _ _ e _ _ _ _ _ (w .0 .taken) (w .5) (w .6) (w .4 .ensures) (w .7) (w .8)) (λ w. passes-parts _ _ _ e _ _ _ _ (w .0 .left) (w .1) (w .2) (w .3) (w .4)) (c .if2 .came)),
+          (⊎-elim (λ w.
+          let f = fits-here (present turn) _ _ e (turn .loop .inv .1 .fits) (w .0 .taken) in
+          let x = present turn .exchange in
+          takes-parts _ _ _ e _ _ _ _ _ (w .0 .taken) (w .5 ∙ join-book x _ (w .1 .ensures) f _ _ (w .2 .ensures)) (w .6 ∙ join-counts x _ (w .1 .ensures) f) (w .4 .ensures) (w .7) (w .8)) (λ w. passes-parts _ _ _ e _ _ _ _ (w .0 .left) (w .1) (w .2) (w .3) (w .4)) (c .if2 .came)),
     )
 
 expecting-requires : tie.Need-expecting-requires Inv-loop μ-loop
@@ -154,11 +158,10 @@ queue-all-spec =
     mul-send-event
     element-copy-out-send-event-2
     send-event-requires
-    add-place
+    join-requires
+    waiting-requires
     mul-book
     array-set-from-book
-    add-counts
-    add-counts-2
     array-read-pending-after
     mul-pending-after
     array-read-pending-after-2

@@ -15,7 +15,7 @@ use Rattle.broker.proofs.state.UistBroker.refused_update.Statement.{sta
 use Rattle.broker.proofs.state.UistBroker.refused_update.Tie as tie
 
 refused : (b : UistBroker) (t : Table) (n : ℕ) (trades : List Trade) (events : List OrderEvent) → trades ≡ tickOf (b .exchange) t .trades → events ≡ noEvents →
-    record { broker = b; trades = trades; count = 0; first = 0; events = events; sent = 0; total = zero64; number = n } ≡ updateRefused b t n
+    record { broker = b; trades = trades; count = 0; first = 0; events = events; sent = 0; total = zero64; fault = n } ≡ updateRefused b t n
 refused b t n trades events p q = cc (p, q)
 
 check-requires : tie.Need-check-requires

@@ -1,59 +1,72 @@
 -- `UistBroker::send_order` meets its contract: 16, a refusal, or the order taken, which has a place. Assumes nothing.
 use mathlib.Core.Path.{_≡_, refl, ap, sym, _∙_}
-use mathlib.Core.Bool.{Bool, true, false, cond}
+use mathlib.Core.Bool.{Bool, false}
+use mathlib.Core.List.{[], _∷_}
 use native.Mathlib.Omega.{arith}
 use borrow.Author.Needs.{needs}
-use Prim.Native.Nat.{_%_}
+use Prim.Native.Nat.{ℕ, zero, suc, _<_, _%_}
+use lib.ListN.{set}
+use Rattle.market.specs.Faults.{_draws_, drawn, unlessDrawn}
 use Rattle.market.specs.Orders.{eventOf}
 use Rattle.market.specs.declared.order.Order.{Order}
-use Rattle.exchange.specs.State.{brokenOf}
-use Rattle.exchange.specs.Insert.{joined}
-use Rattle.exchange.specs.declared.state.Counts.{Counts}
-use Rattle.exchange.proofs.Counting.{sound-facts}
-use Rattle.broker.specs.Send.{eventAt, eventFor, sentOne, SendsFit, sendOf}
-use Rattle.broker.specs.declared.state.Portfolio.{Portfolio}
+use Rattle.exchange.proofs.Counting.{sound-facts, Free, join-place, join-book, join-counts}
+use Rattle.broker.specs.Lender.{broken, brokerFault}
+use Rattle.broker.proofs.Drawing.{drew, passed}
+use Rattle.broker.specs.Send.{eventAt, sentOne, sendOf}
+use Rattle.portfolio.specs.declared.state.Portfolio.{Portfolio}
 use Rattle.broker.specs.declared.state.UistBroker.{UistBroker}
 use Rattle.market.specs.declared.order.OrderEvent.{OrderEvent}
 use Rattle.broker.specs.declared.send.Sent.{Sent}
-use Rattle.broker.proofs.Sending.{OneFits, atSymbol, event-for, fits-here, takes-parts, sent-refused}
+use Rattle.broker.proofs.Sending.{atSymbol, event-for, fits-here, takes-parts, sent-refused}
 use Rattle.broker.proofs.state.UistBroker.send_order.Statement.{statement}
 use Rattle.broker.proofs.state.UistBroker.send_order.Tie as tie
 
-module _ (b : UistBroker) (o : Order) (e : OrderEvent) where
+module _ (b : UistBroker) (o : Order) (e : OrderEvent) (n : ℕ) (is : n ≡ brokerFault b) where
   abbrev own : OrderEvent
   own = eventAt o (b .portfolio .funds .failed) (b .portfolio .funds .cash) (atSymbol (b .portfolio) (o .symbol % 256)) (b .exchange .counts)
 
   abbrev answer : UistBroker → OrderEvent → Sent
   answer x y = record { broker = x; event = y }
 
-  refused-by : (t : Bool) → brokenOf (b .exchange .counts) ≡ t → e ≡ cond t (eventOf o 16) own → (e .number ≡ 0 → ⊥) → answer b e ≡ sendOf b o
-  unfolding sendOf
-  refused-by true h q d = ap (answer b) q ∙ rw h
-  refused-by false h q d =
-      let f = event-for b o e q in
-      ap (λ (x : UistBroker). answer x e) (sent-refused b o (λ z. d (ap (λ (y : OrderEvent). y .number) f ∙ z))) ∙ ap (answer (sentOne b o)) f ∙ rw h
+  -- 16 is drawn
+  broken-by : (e ≡ eventOf o n) → (n ≡ 0 → ⊥) → answer b e ≡ sendOf b o
+  unfolding sendOf drawn
+  broken-by q d = let h = drew (broken b) n is d in ap (answer b) (q ∙ ap (eventOf o) (is ∙ ap (λ (t : Bool). drawn ((t draws 16) ∷ [])) h)) ∙ rw h
 
-  refused : e ≡ cond (brokenOf (b .exchange .counts)) (eventOf o 16) own → (e .number ≡ 0 → ⊥) → answer b e ≡ sendOf b o
-  refused q d = refused-by (brokenOf (b .exchange .counts)) refl q d
+  -- 16 is not drawn, and the event is the order's own
+  module _ (z : n ≡ 0) (q : e ≡ own) where
+    sound : broken b ≡ false
+    sound = passed (broken b) n is z
 
-  sound-by : (t : Bool) → brokenOf (b .exchange .counts) ≡ t → e ≡ cond t (eventOf o 16) own → e .number ≡ 0 → (brokenOf (b .exchange .counts) ≡ false) × (e ≡ own)
-  sound-by true h q z = absurd (omega (arith, ap (λ (y : OrderEvent). y .number) q, z))
-  sound-by false h q z = (h, q)
+    refused-by : (e .fault ≡ 0 → ⊥) → answer b e ≡ sendOf b o
+    unfolding sendOf
+    refused-by d =
+        let f = event-for b o e q in
+        ap (λ (x : UistBroker). answer x e) (sent-refused b o (λ y. d (ap (λ (x : OrderEvent). x .fault) f ∙ y))) ∙ ap (answer (sentOne b o)) f ∙ rw sound
 
-  module _ (q : e ≡ cond (brokenOf (b .exchange .counts)) (eventOf o 16) own) (z : e .number ≡ 0) where
-    abbrev sound : (brokenOf (b .exchange .counts) ≡ false) × (e ≡ own)
-    sound = sound-by (brokenOf (b .exchange .counts)) refl q z
-
-    one-fits : OneFits (b .exchange .counts)
-    one-fits =
-        let s = sound-facts (b .exchange .counts) (sound .0) in
-        fits-here b o e (sound .1) (record { places = s .together; rows = s .bounded }) z
+    one-fits : e .fault ≡ 0 → Free (b .exchange .counts)
+    one-fits y =
+        let s = sound-facts (b .exchange .counts) sound in
+        fits-here b o e q (record { places = s .together; rows = s .bounded }) y
 
     taken : (x : UistBroker) → x ≡ sentOne b o → answer x e ≡ sendOf b o
     unfolding sendOf
-    taken x p =
-        let h = sound .0 in
-        ap (λ (y : UistBroker). answer y e) p ∙ ap (answer (sentOne b o)) (event-for b o e (sound .1)) ∙ rw h
+    taken x p = ap (λ (y : UistBroker). answer y e) p ∙ ap (answer (sentOne b o)) (event-for b o e q) ∙ rw sound
+
+  -- by the number
+  refused-of : (k : ℕ) → n ≡ k → e ≡ unlessDrawn k own (eventOf o k) → (e .fault ≡ 0 → ⊥) → answer b e ≡ sendOf b o
+  refused-of zero z q d = refused-by z q d
+  refused-of (suc k) z q d = broken-by (q ∙ ap (eventOf o) (sym z)) (λ y. omega (arith, z, y))
+
+  refused : e ≡ unlessDrawn n own (eventOf o n) → (e .fault ≡ 0 → ⊥) → answer b e ≡ sendOf b o
+  refused q d = refused-of n refl q d
+
+  own-of : (k : ℕ) → n ≡ k → e ≡ unlessDrawn k own (eventOf o k) → e .fault ≡ 0 → (n ≡ 0) × (e ≡ own)
+  own-of zero z q y = (z, q)
+  own-of (suc k) z q y = absurd (omega (arith, ap (λ (x : OrderEvent). x .fault) q, y))
+
+  owns : e ≡ unlessDrawn n own (eventOf o n) → e .fault ≡ 0 → (n ≡ 0) × (e ≡ own)
+  owns q y = own-of n refl q y
 
 cast-at : tie.Need-cast-at
 cast-at c = search needs
@@ -73,31 +86,45 @@ mul-sound-event c = search needs
 element-copy-out-sound-event-2 : tie.Need-element-copy-out-sound-event-2
 element-copy-out-sound-event-2 c = search needs
 
+fault-requires : tie.Need-fault-requires
+fault-requires c κs = search needs
+
 sound-event-requires : tie.Need-sound-event-requires
 sound-event-requires c κs = search needs
 
 returns : tie.Need-returns
-returns c = refused _ _ _ (c .before .before .sound-event .ensures) (c .if1 .taken)
+returns c =
+    let sound = c .before .before in
+    refused _ _ _ _ (sound .before .fault .ensures) (sound .sound-event .ensures) (c .if1 .taken)
 
-fits : (c : tie.Else1) → OneFits (c .before .before .before .before .before .before .before .before .before .before .before .before .args .self .exchange .counts)
+-- no number is drawn, and the event is the order's own
+the-own : (c : tie.Else1) →
+    let a = c .before .before .before .before .before .before .before .before .before .before .before .before .before .args in
+    (c .before .before .before .fault .result ≡ 0) × (c .before .before .sound-event .result ≡ own (a .self) (a .order) (c .before .before .sound-event .result) _ (c .before .before .before .fault .ensures))
+the-own c =
+    let a = c .before .before .before .before .before .before .before .before .before .before .before .before .before .args in
+    let sound = c .before .before in
+    owns (a .self) (a .order) _ _ (sound .before .fault .ensures) (sound .sound-event .ensures) (c .if1 .left)
+
+fits : (c : tie.Else1) → Free (c .before .before .before .before .before .before .before .before .before .before .before .before .before .args .self .exchange .counts)
 fits c =
-    let a = c .before .before .before .before .before .before .before .before .before .before .before .before .args in
-    one-fits (a .self) (a .order) _ (c .before .before .sound-event .ensures) (c .if1 .left)
+    let a = c .before .before .before .before .before .before .before .before .before .before .before .before .before .args in
+    one-fits (a .self) (a .order) _ _ (c .before .before .before .fault .ensures) (the-own c .0) (the-own c .1) (c .if1 .left)
 
-add-place : tie.Need-add-place
-add-place c = omega (arith, fits (c .before .before .before .before))
+join-requires : tie.Need-join-requires
+join-requires c κs = search needs
+
+waiting-requires : tie.Need-waiting-requires
+waiting-requires c κs = search needs
+
+place : (c : tie.After-join) → c .join .result .at < 1024
+place c = let e = c .before .before .before .before in join-place (e .before .before .before .before .before .before .before .before .before .before .before .before .before .args .self .exchange) _ (c .join .ensures) (fits e)
 
 mul-book : tie.Need-mul-book
-mul-book c = omega (arith, fits (c .before .before .before .before))
+mul-book c = omega (arith, place (c .before))
 
 array-set-from-book : tie.Need-array-set-from-book
-array-set-from-book c = omega (arith, fits (c .before .before .before .before))
-
-add-counts : tie.Need-add-counts
-add-counts c = omega (arith, fits (c .before .before .before .before .before))
-
-add-counts-2 : tie.Need-add-counts-2
-add-counts-2 c = omega (arith, fits (c .before .before .before .before .before .before))
+array-set-from-book c = place (c .before)
 
 array-read-pending-after : tie.Need-array-read-pending-after
 array-read-pending-after c = search needs
@@ -126,12 +153,16 @@ expecting-requires c κs = search needs
 returns-2 : tie.Need-returns-2
 returns-2 c =
     let m = c .before in
-    let past = m .before .before .before .before .before .before .before in
-    let e = past .before .before .sound-event .ensures in
-    let z = past .if1 .left in
-    let a = past .before .before .before .before .before .before .before .before .before .before .before .before .args in
-    let sent = takes-parts (a .self) (a .order) _ (sound (a .self) (a .order) _ e z .1) _ _ _ _ _ z refl refl (m .pending-after .ensures) refl refl in
-    taken (a .self) (a .order) _ e z _ (ap (λ (p : Portfolio). record { exchange = joined (a .self .exchange) (a .order); portfolio = p }) (c .expecting .ensures) ∙ sent)
+    let join = m .before .before .before in
+    let past = join .before .before .before .before in
+    let a = past .before .before .before .before .before .before .before .before .before .before .before .before .before .args in
+    let e = past .before .before .before .fault .ensures in
+    let o = the-own past in
+    let x = a .self .exchange in
+    let book = join-book x _ (join .join .ensures) (fits past) (a .order) _ (m .before .before .waiting .ensures) in
+    let counts = join-counts x _ (join .join .ensures) (fits past) in
+    let sent = takes-parts (a .self) (a .order) _ (o .1) _ _ _ _ _ (past .if1 .left) book counts (m .pending-after .ensures) refl refl in
+    taken (a .self) (a .order) _ _ e (o .0) (o .1) _ (ap (λ (p : Portfolio). record { exchange = record { book = set (x .book) (join .join .result .at) (m .before .before .waiting .result); counts = join .join .result .counts }; portfolio = p }) (c .expecting .ensures) ∙ sent)
 
 pub send-order-spec : {M : Type 1} → statement M
 send-order-spec =
@@ -143,13 +174,13 @@ send-order-spec =
     element-copy-out-sound-event
     mul-sound-event
     element-copy-out-sound-event-2
+    fault-requires
     sound-event-requires
     returns
-    add-place
+    join-requires
+    waiting-requires
     mul-book
     array-set-from-book
-    add-counts
-    add-counts-2
     array-read-pending-after
     mul-pending-after
     array-read-pending-after-2

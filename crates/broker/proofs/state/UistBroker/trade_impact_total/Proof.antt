@@ -11,12 +11,12 @@ use Rattle.broker.proofs.state.UistBroker.trade_impact_total.Tie as tie
 abbrev noImpact : Impact
 noImpact = record { budget = zero64; price = zero64 }
 
-refused : (i : Impact) (n m : ℕ) → m ≡ n → (m ≡ 0 → ⊥) → record { impact = noImpact; number = m } ≡ readImpact i n
+refused : (i : Impact) (n m : ℕ) → m ≡ n → (m ≡ 0 → ⊥) → record { impact = noImpact; fault = m } ≡ readImpact i n
 unfolding readImpact
 refused i n zero e d = absurd (d refl)
 refused i n (suc m) e d = rw (← e)
 
-answered : (i j : Impact) (n m : ℕ) → m ≡ n → m ≡ 0 → j ≡ i → record { impact = j; number = 0 } ≡ readImpact i n
+answered : (i j : Impact) (n m : ℕ) → m ≡ n → m ≡ 0 → j ≡ i → record { impact = j; fault = 0 } ≡ readImpact i n
 unfolding readImpact
 answered i j n m e z p = let k : n ≡ 0 = sym e ∙ z in rw (k, p)
 

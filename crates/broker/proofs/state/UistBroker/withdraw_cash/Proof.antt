@@ -8,10 +8,11 @@ use borrow.Author.Tests.{not-true, not-false}
 use Rattle.account.specs.Account.{debitOf}
 use Rattle.account.specs.declared.BrokerCashEvent.the-variants.{WithdrawSuccess, WithdrawFailure}
 use Rattle.account.specs.declared.Moved.{Moved}
-use Rattle.exchange.specs.State.{brokenOf}
+use Rattle.broker.specs.Lender.{broken}
 use Rattle.rules.specs.Amounts.{minus, below}
 use Rattle.broker.specs.Cash.{withCash, cashOf, answered, cashMoved, withdrawOf}
 use Rattle.broker.specs.declared.state.UistBroker.{UistBroker}
+use Rattle.broker.proofs.Drawing.{drew, passed}
 use Rattle.broker.proofs.Cashing.{withdraws}
 use Rattle.broker.proofs.state.UistBroker.withdraw_cash.Statement.{statement}
 use Rattle.broker.proofs.state.UistBroker.withdraw_cash.Tie as tie
@@ -24,7 +25,7 @@ debit-by : (b : UistBroker) (a : Float) (above : Bool) →
 debit-by b a true = refl
 debit-by b a false = refl
 
-withdrawn : (b : UistBroker) (a : Float) (m : Moved) (b′ : UistBroker) → brokenOf (b .exchange .counts) ≡ false → finite a ≡ true → b .portfolio .funds .failed ≡ false →
+withdrawn : (b : UistBroker) (a : Float) (m : Moved) (b′ : UistBroker) → broken b ≡ false → finite a ≡ true → b .portfolio .funds .failed ≡ false →
     m ≡ debitOf (cashOf b) a → b′ ≡ withCash b (m .cash) → answered b′ (m .event) ≡ withdrawOf b a
 unfolding debitOf cashMoved withdrawOf
 withdrawn b a m b′ h f g p q =
@@ -33,14 +34,14 @@ withdrawn b a m b′ h f g p q =
     ∙ debit-by b a (below (cashOf b) a)
     ∙ rw (h, f, g)
 
-broken-requires : tie.Need-broken-requires
-broken-requires c κs = search needs
+fault-requires : tie.Need-fault-requires
+fault-requires c κs = search needs
 
 returns : tie.Need-returns
 unfolding cashMoved withdrawOf
 returns c =
-    let a = c .before .before .before .before .before .before .args in
-    withdraws (a .self) (a .cash) _ (simp (sym (c .before .broken .ensures) ∙ c .if1 .taken))
+    let a = c .before .before .before .before .args in
+    withdraws (a .self) (a .cash) _ (simp (drew _ _ (c .before .fault .ensures) (c .if1 .taken)))
 
 finite-requires : tie.Need-finite-requires
 finite-requires c κs = search needs
@@ -49,16 +50,16 @@ returns-2 : tie.Need-returns-2
 unfolding cashMoved withdrawOf
 returns-2 c =
     let else = c .before .before in
-    let a = else .before .before .before .before .before .before .args in
-    withdraws (a .self) (a .cash) _ (simp (sym (else .before .broken .ensures) ∙ else .if1 .left, sym (c .before .finite .ensures) ∙ not-true _ (c .if2 .taken)))
+    let a = else .before .before .before .before .args in
+    withdraws (a .self) (a .cash) _ (simp (passed _ _ (else .before .fault .ensures) (else .if1 .left), sym (c .before .finite .ensures) ∙ not-true _ (c .if2 .taken)))
 
 returns-3 : tie.Need-returns-3
 unfolding cashMoved withdrawOf
 returns-3 c =
     let else = c .before .before .before in
-    let a = else .before .before .before .before .before .before .args in
+    let a = else .before .before .before .before .args in
     withdraws (a .self) (a .cash) _ (simp (
-      sym (else .before .broken .ensures) ∙ else .if1 .left,
+      passed _ _ (else .before .fault .ensures) (else .if1 .left),
       sym (c .before .before .finite .ensures) ∙ not-false _ (c .before .if2 .left),
       c .if3 .taken,
     ))
@@ -75,7 +76,7 @@ returns-4 c =
     let else1 = else .before .before .before in
     withdraws _ _ _ (
     withdrawn _ _ _ _
-    (sym (else1 .before .broken .ensures) ∙ else1 .if1 .left)
+    (passed _ _ (else1 .before .fault .ensures) (else1 .if1 .left))
     (sym (else .before .before .finite .ensures) ∙ not-false _ (else .before .if2 .left))
     (else .if3 .left)
     (c .before .debited .ensures .0)
@@ -85,7 +86,7 @@ pub withdraw-cash-spec : {M : Type 1} → statement M
 withdraw-cash-spec =
     tie.close
     (tie.spec
-    broken-requires
+    fault-requires
     returns
     finite-requires
     returns-2

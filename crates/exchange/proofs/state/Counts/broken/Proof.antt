@@ -21,7 +21,7 @@ module _ (c : Counts) where
   many-taken : c .room < c .taken → true ≡ brokenOf c
   many-taken h = sym (unsound-broken c (λ s. omega (arith, s .bounded)))
 
-  many-given : c .taken < c .given → true ≡ brokenOf c
+  many-given : c .taken < c .ids → true ≡ brokenOf c
   many-given h = sym (unsound-broken c (λ s. omega (arith, s .numbers)))
 
   many-logged : c .taken < c .logged → true ≡ brokenOf c

@@ -3,22 +3,22 @@ use Prim.Native.Nat.{_+_, _-_, _<_, _≤_}
 use mathlib.Core.Path.{_≡_}
 use native.Mathlib.Omega.{arith}
 use borrow.Author.Tests.{eq-eqb, ne-eqb}
-use Rattle.market.specs.Numbers.{drawn}
-use Rattle.exchange.specs.Insert.{roomTests}
+use Rattle.market.specs.Faults.{drawn}
+use Rattle.exchange.specs.State.{roomOf}
 use Rattle.exchange.specs.declared.state.Counts.{Counts}
 use Rattle.exchange.proofs.state.Counts.room_fault.Statement.{statement}
 use Rattle.exchange.proofs.state.Counts.room_fault.Tie as tie
 
 module _ (c : Counts) where
-  all-taken : c .taken ≡ c .room → 10 ≡ drawn (roomTests c)
+  all-taken : c .taken ≡ c .room → 10 ≡ drawn (roomOf c)
   unfolding drawn
   all-taken h = simp (eq-eqb (c .taken) (c .room) h)
 
-  all-placed : (c .taken ≡ c .room → ⊥) → c .resting + c .waits ≡ 1024 → 11 ≡ drawn (roomTests c)
+  all-placed : (c .taken ≡ c .room → ⊥) → c .resting + c .waits ≡ 1024 → 11 ≡ drawn (roomOf c)
   unfolding drawn
   all-placed t h = simp (ne-eqb (c .taken) (c .room) t, eq-eqb (c .resting + c .waits) 1024 h)
 
-  has-room : (c .taken ≡ c .room → ⊥) → (c .resting + c .waits ≡ 1024 → ⊥) → 0 ≡ drawn (roomTests c)
+  has-room : (c .taken ≡ c .room → ⊥) → (c .resting + c .waits ≡ 1024 → ⊥) → 0 ≡ drawn (roomOf c)
   unfolding drawn
   has-room t h = simp (ne-eqb (c .taken) (c .room) t, ne-eqb (c .resting + c .waits) 1024 h)
 

@@ -2,7 +2,7 @@
 use mathlib.Core.Path.{sym, _∙_}
 use borrow.Author.Needs.{needs}
 use borrow.Author.Tests.{lt-ltb, le-ltb, not-true, not-false}
-use Rattle.market.specs.Numbers.{drawn}
+use Rattle.market.specs.Faults.{drawn}
 use Rattle.market.proofs.weight.Weight.fault.Statement.{statement}
 use Rattle.market.proofs.weight.Weight.fault.Tie as tie
 

@@ -1,0 +1,23 @@
+-- The walk over weights on the program's state. Definitions only.
+use mathlib.Core.List.{List, [], _∷_, _++_}
+use lib.ListN.{length, take}
+use Rattle.lists.specs.Lists.{over}
+use Rattle.market.specs.declared.order.Order.{Order}
+use Rattle.rules.specs.Weights as Rules
+use Rattle.portfolio.specs.Lists.{listed}
+use Rattle.portfolio.specs.declared.list.OrderList.{OrderList}
+use Rattle.portfolio.specs.declared.weigh.Wanted.{Wanted}
+use Rattle.portfolio.specs.declared.weigh.Wanted.the-variants.{Listed, Nothing}
+use Rattle.portfolio.specs.declared.weigh.Plan.{Plan}
+
+-- what a `Wanted` and a `Plan` say
+abbrev pub orderIn : Wanted → List Order
+orderIn (Listed o) = o ∷ []
+orderIn Nothing = []
+
+abbrev pub planIn : Plan → Rules.Plan
+planIn p = record { fault = p .fault; orders = listed (p .list) }
+
+-- a list with these orders behind its own, as far as there is place
+unfoldable pub ontoOf : OrderList → List Order → OrderList
+ontoOf l m = record { orders = over (take 256 (take (l .count) (l .orders) ++ m)) (l .orders); count = length (take 256 (take (l .count) (l .orders) ++ m)) }
