@@ -1,10 +1,10 @@
 #!/bin/sh
 # The benchmark: the Rattle program and the Rust on the same scenarios in one run, with equal answers and final bits asserted.
 # Usage: bench/run.sh [ROUNDS [SCENARIO..]]; 5 rounds of every scenario unless named. The table is also at target/bench/table.md.
-# REHEARSE names another build of the Rattle program.
+# Builds what is out of date. REHEARSE names another build of the Rattle program.
 set -eu
 cd "$(dirname "$0")/.."
-[ -x "${REHEARSE:-target/bin/rehearse}" ] || rt check rehearse
-[ -x target/oracle/bent_mended ] || oracle/build.sh
+[ -n "${REHEARSE:-}" ] || tools/build.sh engine
+tools/build.sh oracle
 [ $# -gt 0 ] || set -- 5
 exec python3 -B bench/bench.py "$@"

@@ -3,12 +3,17 @@
 Each is the same text on every machine. What is timed stands between pairs of `clock` lines: the odd ones start a stretch, the even
 ones end it. Answers are written quietly, and the whole state once, at the end.
 
-Prices: a state of 32 bits starts at 7 and steps by 1,664,525 times itself plus 1,013,904,223, modulo 2^32; a draw is the new state
-divided by 65,536, whole part. A security's first mid is 50 + (draw modulo 10,000) / 100. Each day it is multiplied by
-0.98 + (draw modulo 4,001) / 100,000; bid is mid * 0.9995, ask mid * 1.0005. There are no costs.
+Prices: the draws are those of tools/scenario/draws.py from 7 on. A security's first mid is 50 + (draw modulo 10,000) / 100. Each day
+it is multiplied by 0.98 + (draw modulo 4,001) / 100,000; bid is mid * 0.9995, ask mid * 1.0005. There are no costs.
 """
-import struct
+import os
 import sys
+
+# tools/ has the shared package.
+sys.path.insert(0, os.path.join(os.path.dirname(os.path.dirname(os.path.abspath(__file__))), "tools"))
+
+from scenario import lines
+from scenario.draws import Draws
 
 LOG = 262144
 # A rebalancing's orders fill two updates later, so holdings swing between none and twice the weight: orders arise every day.
@@ -17,42 +22,33 @@ WARM_UP = 10
 UPDATE_DAYS = {10: 4000, 50: 2000, 100: 1000, 200: 600, 256: 480}
 
 
-def bits(x):
-    return struct.pack(">d", x).hex()
-
-
 class Prices:
     def __init__(self, symbols):
-        self.state = 7
-        self.mids = [50.0 + self.draw() % 10000 / 100.0 for _ in range(symbols)]
+        self.draws = Draws(7)
+        self.mids = [50.0 + self.draws.draw() % 10000 / 100.0 for _ in range(symbols)]
         self.date = -1
-
-    def draw(self):
-        self.state = (self.state * 1664525 + 1013904223) % 2**32
-        return self.state // 65536
 
     def next_day(self):
         """The next day's table."""
         self.date += 1
-        self.mids = [mid * (0.98 + self.draw() % 4001 / 100000.0) for mid in self.mids]
-        rows = enumerate(self.mids)
-        return " ".join(f"{s}:{bits(mid * 0.9995)}:{bits(mid * 1.0005)}:{self.date}" for s, mid in rows)
+        self.mids = [mid * (0.98 + self.draws.draw() % 4001 / 100000.0) for mid in self.mids]
+        return [(symbol, mid * 0.9995, mid * 1.0005, self.date) for symbol, mid in enumerate(self.mids)]
 
 
 def started(rows, deposit):
     """A new broker with money."""
-    return ["quiet", f"new {LOG} / {rows}", f"deposit {bits(deposit)}"]
+    return ["quiet", lines.new(LOG, [], rows), lines.amount("deposit", deposit)]
 
 
 def update(symbols):
     prices = Prices(symbols)
     rows = prices.next_day()
-    weights = " ".join(f"{s}:{bits(WEIGHTS / symbols)}" for s in range(symbols))
+    weights = [(symbol, WEIGHTS / symbols) for symbol in range(symbols)]
     yield from started(rows, 10000000.0)
     for day in range(UPDATE_DAYS[symbols]):
         if day == WARM_UP:
             yield "clock"
-        yield f"update {symbols} {rows} / {rows} / {weights}"
+        yield lines.update(symbols, rows, rows, weights)
         rows = prices.next_day()
     yield from ("clock", "state")
 
@@ -62,12 +58,12 @@ def check_resting():
     prices = Prices(100)
     yield from started(prices.next_day(), 10000000.0)
     for i in range(1024):
-        yield f"insert lb:{i % 100}:{bits(1.0)}:{bits(1.0)}"
-    yield "check /"
+        yield lines.order("insert", ("lb", i % 100, 1.0, 1.0))
+    yield lines.check([], [])
     yield "clock"
     for _ in range(2000):
         rows = prices.next_day()
-        yield f"check {rows} / {rows}"
+        yield lines.check(rows, rows)
     yield from ("clock", "state")
 
 
@@ -75,7 +71,7 @@ def check_empty():
     """A check with nothing in the book and empty tables: what a call costs at least."""
     yield from started(Prices(100).next_day(), 10000000.0)
     yield "clock"
-    yield from ["check /"] * 50000
+    yield from [lines.check([], [])] * 50000
     yield from ("clock", "state")
 
 
@@ -86,16 +82,16 @@ def send():
     for _ in range(100):
         yield "clock"
         for i in range(1000):
-            yield f"send mb:{i % 100}:{bits(1.0)}:-"
+            yield lines.order("send", ("mb", i % 100, 1.0, None))
         yield "clock"
-        yield from [f"check {rows} / {rows}"] * 2
+        yield from [lines.check(rows, rows)] * 2
     yield "state"
 
 
 def deposit():
     yield from started(Prices(100).next_day(), 10000000.0)
     yield "clock"
-    yield from [f"deposit {bits(1.0)}"] * 100000
+    yield from [lines.amount("deposit", 1.0)] * 100000
     yield from ("clock", "state")
 
 
@@ -105,13 +101,13 @@ def cost_basis():
     yield from started(prices.next_day(), 1000000000.0)
     for _ in range(50):
         for i in range(1000):
-            yield f"send mb:{i % 10}:{bits(1.0)}:-"
+            yield lines.order("send", ("mb", i % 10, 1.0, None))
         for _ in range(2):
             rows = prices.next_day()
-            yield f"check {rows} / {rows}"
+            yield lines.check(rows, rows)
     yield "clock"
     for i in range(500):
-        yield f"cost_basis {i % 10}"
+        yield lines.read("cost_basis", i % 10)
     yield from ("clock", "state")
 
 
@@ -126,8 +122,8 @@ SCENARIOS = {f"update-{n}": ("update", n, lambda n=n: update(n)) for n in UPDATE
 
 
 def main(name=None):
-    lines = SCENARIOS[name][2]() if name else SCENARIOS
-    sys.stdout.writelines(line + "\n" for line in lines)
+    found = SCENARIOS[name][2]() if name else SCENARIOS
+    sys.stdout.writelines(line + "\n" for line in found)
 
 
 if __name__ == "__main__":

@@ -1,7 +1,7 @@
 """Random amounts for scenarios: ordinary ones, and floats of every size and sort."""
 
-import floats
-from floats import LARGEST, LEAST, LEAST_NORMAL
+from scenario import floats
+from scenario.floats import LARGEST, LEAST, LEAST_NORMAL
 
 EDGES = [0.0, -0.0, 1.0, -1.0, 0.5, 0.1, 2.0, 10.0, 100.0, 1000.0, LEAST, -LEAST, LEAST_NORMAL,
          -LEAST_NORMAL, LARGEST, -LARGEST, floats.down(1.0), floats.up(1.0), 4503599627370495.5,

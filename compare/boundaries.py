@@ -2,9 +2,9 @@
 stands on a boundary or on the float beside it."""
 
 import amounts
-import floats
 from play import Play
 from player import LIST_READS
+from scenario import floats
 
 SIDES = ["get_total_value", "get_liquidation_value", "get_cash_balance", "turnover"]
 
@@ -73,7 +73,7 @@ def later_examples(play):
         play.order("insert", (kind, 3, shares, None))
         play.check([], [])
         play.check([row(3, at)], [])
-        play.read("cost_basis", 3)
+        play.symbol_read("cost_basis", 3)
     start(play, 0.0, [row(3, 12.5)])
     hold(play, 3, 10.0, [row(3, 12.5)])
     play.amount("liquidate", 26.0)
@@ -87,7 +87,7 @@ def cash_and_cost(rng, play):
     play.order("send", ("mb", 3, floats.down(shares), None))
     play.order("send", ("mb", 3, -shares, None))
     sell_all(play, [row(3, ask)])
-    play.read("cost_basis", 3)
+    play.symbol_read("cost_basis", 3)
 
 
 def holding_and_shares(rng, play):
@@ -143,10 +143,10 @@ def back_to_zero(rng, play):
         play.check(rows, rows)
         if rng.random() < 0.7:
             play.check([row(3, price(rng))], rows)
-        play.read("cost_basis", 3)
-        play.read("get_pending_order", 3)
+        play.symbol_read("cost_basis", 3)
+        play.symbol_read("get_pending_order", 3)
     sell_all(play, rows)
-    play.read("get_position_qty", 3)
+    play.symbol_read("get_position_qty", 3)
 
 
 def pending_zero(rng, play):
@@ -157,11 +157,11 @@ def pending_zero(rng, play):
     shares = rng.choice([1.0, 8.0, 0.1])
     for kind in rng.sample(["mb", "ms"], 2):
         play.order("send", (kind, 3, shares, None))
-    play.read("get_pending_order", 3)
+    play.symbol_read("get_pending_order", 3)
     play.order("insert", ("mb", 4, 2.0, None))
     sell_all(play, rows)
-    play.read("get_pending_order", 3)
-    play.read("get_pending_order", 4)
+    play.symbol_read("get_pending_order", 3)
+    play.symbol_read("get_pending_order", 4)
 
 
 def withdrawals(rng, play):
@@ -251,7 +251,7 @@ def added_numbers(rng, play):
         play.read(read)
     rng.choice([lambda: play.order("send", ("mb", 0, 1.0, None)), lambda: play.order("insert", ("sb", 0, 1.0, 2.0)),
                 lambda: play.send_list(1, [("mb", 0, 1.0, None)] * 2), lambda: play.walk(0, [(0, 0.5)]),
-                lambda: play.lend(log + 1), lambda: play.read("get_quote", 256),
+                lambda: play.lend(log + 1), lambda: play.symbol_read("get_quote", 256),
                 lambda: play.check([row(256, 1.0)], []), lambda: play.check([], [row(3, 1.0), row(3, 1.0)]),
                 lambda: play.new(0, [("flat", 1.0)] * 17, [])])()
     play.check(rows, rows)
@@ -298,8 +298,8 @@ def unquoted_stop(rng, play):
         play.order("insert", ("mb", symbol, 4.0, None))
     play.check([], rows)
     play.check([row(s, 10.0) for s in sorted((3, hidden))], rows)
-    play.read("get_position_value", hidden)
-    play.read("get_position_liquidation_value", hidden)
+    play.symbol_read("get_position_value", hidden)
+    play.symbol_read("get_position_liquidation_value", hidden)
     play.amount("liquidate", rng.choice([20.0, 40.0, 0.0, -1.0, 39.0, 1000.0, floats.LEAST]))
     play.order("send", ("ms", hidden, 1.0, None))
     sell_all(play, rows)

@@ -1,28 +1,32 @@
-"""Compares the engine with the Rust: generates scenarios from a seed, runs both programs on them, and
-says what was compared and whether there is a difference. Exit status 1 where there is one."""
+"""Compares the engine with the Rust and with document 01's model: generates scenarios from a seed, runs both
+programs on them, and says what was compared and whether there is a difference; then sees that the lying engines
+of liars.py are refused. Exit status 1 where there is a difference, or a lying engine passes."""
 
 import argparse
 import os
-import random
 import sys
 import time
 
-# Nothing is written beside the sources.
+ROOT = os.path.dirname(os.path.dirname(os.path.abspath(__file__)))
+# Nothing is written beside the sources; tools/ has the shared package.
 sys.dont_write_bytecode = True
+sys.path.insert(0, os.path.join(ROOT, "tools"))
 
 import damage
 import differences
 import exhaustive
 import judge
+import liars
 import programs
 import scenarios
 import shorten
 import table
+from play import Due
 
-ROOT = os.path.dirname(os.path.dirname(os.path.abspath(__file__)))
 FOLDER = os.path.join(ROOT, "target", "compare")
 CHUNK = 15000
 MOST = 5
+FULL = Due((), (), False, None, b"full full")
 
 
 def options():
@@ -32,6 +36,7 @@ def options():
     parser.add_argument("--single-calls", type=int, default=None, help="with the unchanged Rust; a tenth if not given")
     parser.add_argument("--damaged", type=int, default=None, help="damaged lines; a twentieth if not given")
     parser.add_argument("--log-rows", type=int, default=65536, help="the rows that the engine's log has")
+    parser.add_argument("--liars", action="store_true", help="try the lying engines and nothing else")
     parser.add_argument("--engine", default=os.path.join(ROOT, "target", "bin", "rehearse"))
     parser.add_argument("--oracle", default=os.path.join(ROOT, "target", "oracle", "bent"))
     parser.add_argument("--unchanged", default=os.path.join(ROOT, "target", "oracle", "unchanged"))
@@ -39,30 +44,33 @@ def options():
 
 
 def chunk(source):
-    """Some scenarios as one run of lines with their marks; each starts with `full`."""
-    lines, marks, starts = [], [], []
+    """Some scenarios as one run of lines with what is due; each starts with `full`."""
+    lines, due, starts = [], [], []
     for name, play in source:
         starts.append((len(lines), name, play.model))
         lines += ["full"] + play.lines
-        marks += [((), ())] + play.marks
+        due += [FULL] + play.due
         if len(lines) >= CHUNK:
             break
-    return lines, marks, starts
+    return lines, due, starts
 
 
 class Comparison:
-    """One engine beside one oracle, chunk by chunk."""
+    """One engine beside one oracle, chunk by chunk. A difference is a Fault of the judge; `crashed` says that a
+    program ended or answered too little."""
 
-    def __init__(self, engine, oracle, label):
+    def __init__(self, engine, oracle, label, most=MOST, cut=True):
         self.engine, self.oracle, self.label = engine, oracle, label
+        self.most, self.cut = most, cut
         self.tally = judge.Tally()
         self.faults = []
+        self.crashed = False
 
     def run(self, source, calls=None):
         """Compares so many more calls, or, where no count is given, all that the source has."""
         before = self.tally.calls()
-        while (calls is None or self.tally.calls() < before + calls) and len(self.faults) < MOST:
-            lines, marks, starts = chunk(source)
+        while (calls is None or self.tally.calls() < before + calls) and len(self.faults) < self.most:
+            lines, due, starts = chunk(source)
             if not lines:
                 return
             text = ("\n".join(lines) + "\n").encode()
@@ -72,33 +80,33 @@ class Comparison:
             except programs.Crash:
                 one = other = []
             if len(one) == len(other) == len(lines):
-                self.judge(lines, marks, starts, one, other)
+                self.judge(lines, due, starts, one, other)
             else:
                 self.find_crash(lines, starts)
 
-    def judge(self, lines, marks, starts, one, other):
+    def judge(self, lines, due, starts, one, other):
         ends = [start for start, _name, _model in starts[1:]] + [len(lines)]
         for (start, name, model), end in zip(starts, ends):
-            judging = judge.Judge(self.tally)
+            parts = [rows[start:end] for rows in (lines, due, one, other)]
             try:
-                for at in range(start, end):
-                    judging.line(lines[at], marks[at], strip(one[at], at), strip(other[at], at))
-            except judge.Difference as difference:
-                self.fault(name, lines[start:end], str(difference))
-            self.count(name, model, marks[start:end])
-            if len(self.faults) >= MOST:
+                judge.judge_lines(judge.Judge(self.tally), *parts, start)
+            except judge.Fault as fault:
+                self.fault(name, parts[0], "%s, at `%s`" % (fault.what, parts[0][fault.at][:60]))
+            self.count(name, model, parts[1])
+            if len(self.faults) >= self.most:
                 return
 
-    def count(self, name, model, marks):
+    def count(self, name, model, due):
         facts = self.tally.facts
         self.tally.scenarios[name] += 1
         facts["scenarios"] += 1
-        facts["trades"] += model.logged
+        facts["trades"] += len(model.trades)
         facts["failed"] += model.failed
-        facts["silent"] += sum(len(silent) for _drawn, silent in marks)
+        facts["silent"] += sum(len(one.silent) for one in due)
 
     def find_crash(self, lines, starts):
         """Runs scenario by scenario to find the one at which a program ends or answers too little."""
+        self.crashed = True
         ends = [start for start, _name, _model in starts[1:]] + [len(lines)]
         for (start, name, _model), end in zip(starts, ends):
             found = shorten.fault(lines[start:end], self.engine, self.oracle)
@@ -107,60 +115,72 @@ class Comparison:
         self.faults.append("a program fails on scenarios that pass one by one")
 
     def fault(self, name, lines, what):
-        title = "%s-%d-%s" % (self.label, len(self.faults) + 1, name)
-        said = shorten.report(FOLDER, title, lines, self.engine, self.oracle)
-        self.faults.append("%s; cut down: %s" % (what, said))
-
-
-def strip(block, at):
-    """A block without its line's number, which is checked."""
-    number = b"%d " % (at + 1)
-    if not block.startswith(number):
-        raise judge.Difference("the answer's line number is wrong")
-    return b"1 " + block[len(number):]
+        if self.cut:
+            title = "%s-%d-%s" % (self.label, len(self.faults) + 1, name)
+            what += "; cut down: " + shorten.report(FOLDER, title, lines, self.engine, self.oracle)
+        self.faults.append(what)
 
 
 def compare_damaged(given, seed, count):
-    """Damaged lines: how many of each sort, and the first fault, or None. Those that are still
-    well-formed are compared with the Rust like any others."""
-    rng = random.Random(seed)
-    source = scenarios.scenarios(seed)
+    """Damaged lines: how many of each sort, and the first fault, or None."""
+    source = damage.texts(seed)
     counts = [0, 0]
     while sum(counts) < count:
-        lines = ["quiet"]
-        while len(lines) < 500:
-            lines += [line for line in next(source)[1].lines if len(line) < 4000]
-        damaged = damage.damaged_text(rng, lines, 4000)
-        found, fault = damage.check(given.engine, damaged, given.log_rows)
+        lines = next(source)
+        found, fault = damage.check(given.engine, given.oracle, lines, given.log_rows)
         counts = [counts[0] + found[0], counts[1] + found[1]]
         if fault is not None:
-            number, line, due, there = fault
-            return counts, "damaged line %d, %r: %s was due, there is %r" % (number, line[:300], due, there[:100])
-        still = damage.well_formed(damaged, given.log_rows)
-        if shorten.fault(still, given.engine, given.oracle) is not None:
-            return counts, shorten.report(FOLDER, "damaged", still, given.engine, given.oracle)
+            still = damage.well_formed(lines, given.log_rows)
+            return counts, "%s; without the malformed lines: %s" % (
+                fault, shorten.report(FOLDER, "damaged", still, given.engine, given.oracle))
     return counts, None
+
+
+def try_liars(given):
+    """The lying engines that are not refused for what they say; the honest filter must pass."""
+    faults = []
+    print("== lying engines (%d calls each)" % liars.CALLS)
+    for name, (what, _lie) in liars.LIARS.items():
+        tried = Comparison(liars.command(name, given.engine), given.oracle, name, most=1, cut=False)
+        tried.run(scenarios.scenarios(given.seed), liars.CALLS)
+        refused = bool(tried.faults) and not tried.crashed
+        print("%-16s %s" % (name, what))
+        print("  " + (tried.faults[0] if tried.faults else "no difference"))
+        if refused == (name == liars.HONEST) or tried.crashed:
+            faults.append("the lying engine %s is not told apart" % name)
+    return faults
+
+
+def compare_main(given):
+    """The engine beside the bent Rust: every short scenario, then random ones."""
+    part = Comparison(given.engine, given.oracle, "bent")
+    part.run(exhaustive.scenarios())
+    part.run(scenarios.scenarios(given.seed), given.calls)
+    table.summary("the engine beside the Rust, bent (seed %d)" % given.seed, part.tally)
+    return part.faults
+
+
+def compare_single(given):
+    calls = given.calls // 10 if given.single_calls is None else given.single_calls
+    part = Comparison(given.engine, given.unchanged, "unchanged")
+    part.run(scenarios.single_scenarios(given.seed + 1), calls)
+    table.summary("the engine beside the unchanged Rust", part.tally)
+    return part.faults
 
 
 def compare(given):
     """The faults of all the parts."""
     started = time.time()
-    main_part = Comparison(given.engine, given.oracle, "bent")
-    main_part.run(exhaustive.scenarios())
-    main_part.run(scenarios.scenarios(given.seed), given.calls)
-    table.summary("the engine beside the Rust, bent (seed %d)" % given.seed, main_part.tally)
-    single_calls = given.calls // 10 if given.single_calls is None else given.single_calls
-    other_part = Comparison(given.engine, given.unchanged, "unchanged")
-    other_part.run(scenarios.single_scenarios(given.seed + 1), single_calls)
-    table.summary("the engine beside the unchanged Rust", other_part.tally)
+    faults = compare_main(given) + compare_single(given)
     damaged = given.calls // 20 if given.damaged is None else given.damaged
     counts, fault = compare_damaged(given, given.seed + 2, damaged)
     print("== damaged lines\n%d malformed and %d well-formed lines were told apart" % (counts[1], counts[0]))
-    faults = main_part.faults + other_part.faults + ([] if fault is None else [fault])
+    faults += [] if fault is None else [fault]
     meant = differences.check(given)
     print("== meant differences\n%d scenarios, %d not as written" % (differences.count(), len(meant)))
+    faults += meant + try_liars(given)
     print("Took %d seconds." % (time.time() - started))
-    return faults + meant
+    return faults
 
 
 def main():
@@ -168,7 +188,7 @@ def main():
     for path in (given.engine, given.oracle, given.unchanged):
         if not os.access(path, os.X_OK):
             sys.exit("There is no program at %s." % path)
-    faults = compare(given)
+    faults = try_liars(given) if given.liars else compare(given)
     for fault in faults:
         print("difference: " + fault)
     print("no difference" if not faults else "%d differences" % len(faults))

@@ -1,9 +1,15 @@
-"""Damaged lines: takes valid lines, damages bytes or stretches them past the limits, and demands that
-a program answers `malformed` to exactly those that forms.py calls so, and goes on as if they were not there."""
+"""Damaged lines: takes valid lines, damages bytes or stretches them past the limits, and demands that the
+engine answers `malformed` to exactly those that forms.py calls so, and answers the others as the model and the
+Rust do, which see no malformed line."""
+
+import random
 
 import judge
 import programs
+import scenarios
 from forms import LINE, malformed, passed_over
+from reread import reread
+from scenario import lines
 
 BYTES = b"0123456789abcdefghijklmnopqrstuvwxyz:/-_ #+.ABCDEF\t\r\0\x7f\x80\xff"
 GOOD = "3ff0000000000000"
@@ -63,25 +69,37 @@ ODD_WORDS = [w.encode() for w in (
 def stretched(rng):
     """A line at one of the limits, or one past it."""
     more = rng.choice([0, 0, 1])
-    row = "%d:" + GOOD + ":" + GOOD + ":5"
-    rows = [row % i for i in range(512 + more)]
-    weights = ["%d:%s" % (i, GOOD) for i in range(512 + more)]
-    orders = ["mb:1:%s:-" % GOOD] * (1024 + more)
-    costs = ["flat:" + GOOD] * (32 + more)
-    line = rng.choice([
-        ["check"] + rows + ["/"], ["check", "/"] + rows, ["new", "4"] + costs + ["/"], ["new", "4", "/"] + rows,
-        ["send_list", "1024"] + orders, ["send_list", str(1024 + more)], ["walk", "1024"] + weights,
-        ["walk", str(1024 + more)], ["update", "1024", "/", "/"] + weights, ["update", "1024"] + rows + ["/", "/"],
-        ["update", str(1024 + more), "/", "/"], ["get_quotes", str(1024 + more)], ["state", " " * (LINE - 7 + more)],
-        ["x" * rng.choice([LINE, 70000])]])
-    return " ".join(line).encode()
+    rows = [(symbol, 1.0, 1.0, 5) for symbol in range(512 + more)]
+    weights = [(symbol, 1.0) for symbol in range(512 + more)]
+    orders = [("mb", 1, 1.0, None)] * (1024 + more)
+    costs = [("flat", 1.0)] * (32 + more)
+    unknown = "x" * rng.choice([LINE, 70000])
+    return rng.choice([
+        lambda: lines.check(rows, []), lambda: lines.check([], rows),
+        lambda: lines.new(4, costs, []), lambda: lines.new(4, [], rows),
+        lambda: lines.send_list(1024, orders), lambda: lines.send_list(1024 + more, []),
+        lambda: lines.walk(1024, weights), lambda: lines.walk(1024 + more, []),
+        lambda: lines.update(1024, [], [], weights), lambda: lines.update(1024, rows, [], []),
+        lambda: lines.update(1024 + more, [], [], []), lambda: lines.read("get_quotes", 1024 + more),
+        lambda: "state " + " " * (LINE - 7 + more), lambda: unknown])().encode()
 
 
-def damaged_text(rng, lines, count):
+def texts(seed):
+    """Texts of damaged lines without end, made of the lines of random scenarios."""
+    rng = random.Random(seed)
+    source = scenarios.scenarios(seed)
+    while True:
+        valid = ["quiet"]
+        while len(valid) < 500:
+            valid += [line for line in next(source)[1].lines if len(line) < 4000]
+        yield damaged_text(rng, valid, 4000)
+
+
+def damaged_text(rng, valid, count):
     """Lines, most of them damaged; a state follows now and then."""
     out = []
     for _ in range(count):
-        line = rng.choice(lines).encode()
+        line = rng.choice(valid).encode()
         choice = rng.random()
         if choice < 0.5:
             line = bent(rng, line)
@@ -93,41 +111,37 @@ def damaged_text(rng, lines, count):
     return out
 
 
-def wrong_answer(lines, answered, rows):
-    """The first line that is not told apart as forms.py does, or None; and how many of each sort."""
-    answered = iter(answered)
+def well_formed(given, rows):
+    """The lines that have an answer, as text."""
+    return [line.decode() for line in given if not passed_over(line) and not malformed(line, rows)]
+
+
+def answers(engine, oracle, given, rows):
+    """What both programs say to these lines; the Rust's driver sees a comment in each malformed line's place."""
+    kept = [b"#" if passed_over(line) or malformed(line, rows) else line for line in given]
+    return [judge.blocks(programs.answers(program, b"\n".join(text)))
+            for program, text in ((engine, given), (oracle, kept))]
+
+
+def check(engine, oracle, given, rows):
+    """How many lines were well-formed and how many malformed; what is wrong at the first wrong answer, or
+    None. forms.py says which are malformed; the others are judged like those of any scenario."""
+    one, other = map(iter, answers(engine, oracle, given, rows))
+    due = iter(reread(well_formed(given, rows)).due)
+    judging = judge.Judge(judge.Tally())
     counts = [0, 0]
-    for number, line in enumerate(lines, 1):
+    for number, line in enumerate(given, 1):
         if passed_over(line):
             continue
-        head = next(answered, b"").split(b"\n", 1)[0]
-        words = head.split(b" ")
         must = malformed(line, rows)
-        if words[0] != b"%d" % number or (words[1:] == [b"malformed"]) != must:
-            return counts, (number, line, "malformed" if must else "an answer", head)
+        try:
+            text = judge.said(next(one, b""), number)
+            if must and text != b"malformed":
+                raise judge.Difference("malformed is due, there is %r" % text[:100])
+            if not must:
+                judging.line(line.decode(), next(due), text, judge.said(next(other, b""), number))
+        except judge.Difference as difference:
+            return counts, "damaged line %d, %r: %s" % (number, line[:300], difference)
         counts[must] += 1
-    extra = next(answered, None)
-    return counts, None if extra is None else (0, b"", "no more answers", extra)
-
-
-def moved_by_malformed(program, lines, answered, rows):
-    """The first answer that is another one without the malformed lines, or None."""
-    kept = [b"#" if passed_over(line) or malformed(line, rows) else line for line in lines]
-    said = [block for block in answered if block.split(b"\n", 1)[0].split(b" ")[1:] != [b"malformed"]]
-    alone = judge.blocks(programs.answers(program, b"\n".join(kept)))
-    for one, other in zip(said, alone):
-        if one != other:
-            return 0, one[:200], "the same answer as without malformed lines", other
-    return None
-
-
-def check(program, lines, rows):
-    """How many lines were well-formed and how many malformed; the first wrong answer, or None."""
-    answered = judge.blocks(programs.answers(program, b"\n".join(lines)))
-    counts, fault = wrong_answer(lines, answered, rows)
-    return counts, fault or moved_by_malformed(program, lines, answered, rows)
-
-
-def well_formed(lines, rows):
-    """The lines that have an answer, as text."""
-    return [line.decode() for line in lines if not passed_over(line) and not malformed(line, rows)]
+    extra = next(one, None)
+    return counts, None if extra is None else "there is an answer to no line: %r" % extra[:100]

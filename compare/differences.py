@@ -4,12 +4,14 @@ to it and what the engine answers, and both must still answer so.
 A file has sections that begin with `== scenario`, `== bent` or `== unchanged` (a build of the Rust) and
 `== engine`. In a scenario `1024 times LINE` stands for as many lines. In an answer a line `...` stands for
 any number of lines, and ` ...` at a line's end for any rest. Where a build has more than one section its
-answer is not settled: it must be one of them."""
+answer is not settled: it must be one of them. What the engine answers is also judged, line by line and with
+nothing left out, beside the bent Rust and the model."""
 
 import os
 import re
 
 import programs
+import shorten
 
 FOLDER = os.path.join(os.path.dirname(os.path.abspath(__file__)), "differences")
 
@@ -40,7 +42,7 @@ def spelled_out(lines):
     for line in lines:
         many = re.fullmatch(r"(\d+) times (.*)", line)
         out += [many.group(2)] * int(many.group(1)) if many else [line]
-    return ("\n".join(out) + "\n").encode()
+    return out
 
 
 def pattern(lines):
@@ -58,8 +60,10 @@ def pattern(lines):
 def check_file(name, paths):
     """What is not as written."""
     found = sections(name)
-    text = spelled_out(dict(found)["scenario"])
-    faults = []
+    lines = spelled_out(dict(found)["scenario"])
+    text = ("\n".join(lines) + "\n").encode()
+    fault = shorten.fault(lines, paths["engine"], paths["bent"])
+    faults = [] if fault is None else ["differences/%s: line %d: %s" % (name, fault[0] + 1, fault[1])]
     for title in ("bent", "unchanged", "engine"):
         allowed = [pattern(lines) for head, lines in found if head == title]
         if not allowed:

@@ -2,7 +2,7 @@
 resting order's price."""
 
 import amounts
-import floats
+from scenario import floats
 
 
 class Market:

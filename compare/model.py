@@ -1,8 +1,9 @@
-"""A plain broker after document 01, for the generator: it knows what each call draws, so that
-scenarios reach deep states and stand exactly on the rules' boundaries. Orders are tuples (kind,
-symbol, shares, price or None), quotes (symbol, bid, ask, date), costs (name, amount)."""
+"""A plain broker after document 01, written for the comparison and from that paper alone: what each call
+draws, answers and leaves. The engine is held to it on every line, and it is held to the Rust wherever the
+Rust has an answer; the generator reads it to reach deep states and the rules' boundaries. Orders, quotes,
+costs and trades are the tuples of scenario/words.py."""
 
-from floats import NAN, ceil, div, finite, floor
+from scenario.floats import NAN, ceil, div, finite, floor
 
 BOOK = 1024
 BUFFER = 1000.0
@@ -60,6 +61,19 @@ def impact(costs, budget, price, buying):
     return budget, price
 
 
+def charges(costs, quantity, value):
+    """What the costs charge on a trade, added in their order."""
+    sum_ = 0.0
+    for name, amount in costs:
+        if name == "per_share":
+            sum_ += amount * quantity
+        elif name == "pct_of_value":
+            sum_ += value * amount
+        else:
+            sum_ += amount
+    return sum_
+
+
 def meets(order, bid, ask):
     """Does a booked order trade at this row?"""
     kind, price = order[0], order[3]
@@ -88,7 +102,8 @@ class Model:
         self.latest, self.held, self.pending = {}, {}, {}
         self.failed = False
         self.waiting, self.resting = [], []
-        self.taken = self.given = self.logged = 0
+        self.taken = self.given = 0
+        self.trades, self.turnover, self.bought = [], 0.0, {}
         self.silent = []
         number = self.build_fault(costs, first)
         self.dead = number != 0
@@ -121,18 +136,38 @@ class Model:
                 sum_ += value
         return sum_
 
+    def net_value(self, symbol):
+        """What the costs leave of a position's value in a sale, or None."""
+        value = self.value(symbol)
+        return None if value is None else impact(self.costs, value, 0.0, False)[0]
+
     def liquidation_value(self):
         sum_ = self.cash
         for symbol in sorted(self.held):
-            value = self.value(symbol)
+            value = self.net_value(symbol)
             if value is not None:
-                sum_ += impact(self.costs, value, 0.0, False)[0]
+                sum_ += value
         return sum_
+
+    def basis(self, symbol):
+        """The cost basis, or None."""
+        quantity, value = self.bought.get(symbol, (0.0, 0.0))
+        return None if quantity == 0.0 else div(value, quantity)
 
     def rows(self, verb):
         """How many rows a read of one of the broker's lists has."""
         return len({"get_positions": self.held, "get_holdings": self.held, "get_pending_orders": self.pending,
                     "get_quotes": self.latest, "get_trade_costs": self.costs}[verb])
+
+    def symbol_read(self, lends, symbol):
+        if self.broken(lends):
+            return 16
+        return 1 if symbol > 255 else 0
+
+    def cost_call(self, one, other):
+        if self.dead:
+            return 16
+        return 0 if finite(one) and finite(other) else 2
 
     def list_read(self, verb, room):
         if self.dead:
@@ -207,12 +242,12 @@ class Model:
         return number
 
     def send_list(self, room, orders):
-        """The refusal's number, and the events' numbers."""
+        """The refusal's number, and the events: each order's number with the order."""
         if self.dead:
             return 16, []
         if room < len(orders):
             return 15, []
-        return 0, [self.send(order) for order in orders]
+        return 0, [(self.send(order), order) for order in orders]
 
     def delete(self, number):
         if self.dead:
@@ -221,14 +256,14 @@ class Model:
         return 0
 
     def tick(self, rows):
-        """The trades (order, value), in book order; then the waiting orders are booked."""
+        """The trades, in book order; then the waiting orders are booked."""
         table = {row[0]: row for row in rows}
         trades, kept = [], []
         for number, order in self.resting:
             row = table.get(order[1])
             if row is not None and meets(order, row[1], row[2]):
-                price = row[2] if is_buy(order) else row[1]
-                trades.append((order, price * order[2]))
+                side, price = ("buy", row[2]) if is_buy(order) else ("sell", row[1])
+                trades.append((side, order[1], order[2], price * order[2], row[3]))
             else:
                 kept.append((number, order))
         sells = [order for order in self.waiting if not is_buy(order)]
@@ -237,14 +272,13 @@ class Model:
             kept.append((self.given, order))
             self.given += 1
         self.resting, self.waiting = kept, []
-        self.logged += len(trades)
         return trades
 
-    def book(self, order, value):
-        symbol, shares = order[1], order[2]
+    def book(self, trade):
+        side, symbol, shares, value, _date = trade
         held = self.held.get(symbol, 0.0)
         pending = self.pending.get(symbol, 0.0)
-        if is_buy(order):
+        if side == "buy":
             self.cash, held, pending = self.cash - value, held + shares, pending - shares
         else:
             self.cash, held, pending = value + self.cash, held - shares, pending + shares
@@ -254,20 +288,37 @@ class Model:
             else:
                 kept[symbol] = amount
 
+    def log_trade(self, trade):
+        """The log with the trade, and what is folded from it: turnover, and a symbol's quantity and value."""
+        side, symbol, shares, value, _date = trade
+        self.trades.append(trade)
+        self.turnover += value
+        quantity, sum_ = self.bought.get(symbol, (0.0, 0.0))
+        if side == "buy":
+            quantity, sum_ = quantity + shares, sum_ + value
+        else:
+            quantity, sum_ = quantity - shares, sum_ - value
+        self.bought[symbol] = (quantity, 0.0 if quantity == 0.0 else sum_)
+
     def check(self, tradable, fetched):
+        """The number drawn, how many traded, and how many sells a shortfall queued."""
         if self.broken(lends=True):
-            return 16
+            return 16, 0, 0
         number = table_fault(tradable) or table_fault(fetched)
-        if number:
-            return number
+        return (number, 0, 0) if number else (0,) + self.unrefused_check(tradable, fetched)
+
+    def unrefused_check(self, tradable, fetched):
         trades = self.tick(tradable)
         for row in fetched:
             self.latest[row[0]] = row
-        for order, value in trades:
-            self.book(order, value)
-        if self.cash < 0.0 and not self.sell_off(-self.cash + BUFFER):
-            self.failed = True
-        return 0
+        for trade in trades:
+            self.log_trade(trade)
+            self.book(trade)
+        queued = 0
+        if self.cash < 0.0:
+            raised, queued = self.sell_off(-self.cash + BUFFER)
+            self.failed = self.failed or not raised
+        return len(trades), queued
 
     def sales(self, amount):
         """The orders of a liquidation and what is left; None for orders where it cannot begin."""
@@ -289,23 +340,22 @@ class Model:
         return orders, rest
 
     def sell_off(self, amount):
-        """A liquidation; notes in `silent` the numbers that no answer shows."""
+        """A liquidation: whether it raised the amount, and how many sells were taken. Notes in `silent` the
+        numbers that no answer shows."""
         orders, rest = self.sales(amount)
         if orders is not None and rest == 0.0:
-            for order in orders:
-                number = self.send(order)
-                if number:
-                    self.silent.append(number)
-            return True
+            drawn = [self.send(order) for order in orders]
+            self.silent += [number for number in drawn if number]
+            return True, drawn.count(0)
         if not amount > self.cash:
             self.cash = self.cash - amount
-        return False
+        return False, 0
 
     def liquidate(self, amount):
         number = self.cash_fault(amount, heeds_failed=False)
         if number:
             return number
-        return 0 if self.sell_off(amount) else 12
+        return 0 if self.sell_off(amount)[0] else 12
 
     def shares_for(self, difference, row):
         if difference < 0.0:
@@ -335,14 +385,17 @@ class Model:
         return sells + buys
 
     def walk(self, room, weights):
+        """The refusal's number, and the orders."""
         if self.dead:
-            return 16
+            return 16, []
         if room < len(weights):
-            return 15
-        return weights_fault(weights) or (13 if self.plan(weights) is None else 0)
+            return 15, []
+        number = weights_fault(weights)
+        orders = None if number else self.plan(weights)
+        return (number or 13, []) if orders is None else (0, orders)
 
     def update(self, room, tradable, fetched, weights):
-        """The refusal's number, and the events' numbers."""
+        """The refusal's number, and the events: each order's number with the order."""
         if self.broken(lends=True):
             return 16, []
         if room < len(weights):
@@ -350,8 +403,8 @@ class Model:
         number = table_fault(tradable) or table_fault(fetched) or weights_fault(weights)
         if number:
             return number, []
-        self.check(tradable, fetched)
+        self.unrefused_check(tradable, fetched)
         orders = self.plan(weights)
         if orders is None:
             return 13, []
-        return 0, [self.send(order) for order in orders]
+        return 0, [(self.send(order), order) for order in orders]

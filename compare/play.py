@@ -1,108 +1,110 @@
-"""Writes a scenario, call by call, while a plain broker (model.py) follows it: each line comes with
-the numbers that it draws, and with those that a liquidation's orders draw unreported."""
+"""Writes a scenario, call by call, while a plain broker (model.py) follows it: each line comes with what is
+due by document 01, the numbers and the whole text."""
 
-import floats
+from typing import NamedTuple, Optional
+
+import model_text
 from model import Model
-
-NOTHING = ((), ())
-
-
-def order_text(order):
-    kind, symbol, shares, price = order
-    return "%s:%d:%s:%s" % (kind, symbol, floats.text(shares), "-" if price is None else floats.text(price))
+from scenario import floats, lines, words
 
 
-def quote_text(row):
-    return "%d:%s:%s:%d" % (row[0], floats.text(row[1]), floats.text(row[2]), row[3])
-
-
-def weight_text(row):
-    return "%d:%s" % (row[0], floats.text(row[1]))
-
-
-def joined(*parts):
-    """The words of a line; a list among the parts gives its own words."""
-    words = []
-    for part in parts:
-        words.extend(part if isinstance(part, list) else [part])
-    return " ".join(words)
+class Due(NamedTuple):
+    """What is due for a line: the numbers that its answer draws, those that a liquidation's orders draw
+    unreported, whether the state after it cannot be read from the lent log (16), how large the free count
+    of sells may be where it answers one, and the text of answer and state, in bytes."""
+    drawn: tuple
+    silent: tuple
+    unlent: bool
+    most: Optional[int]
+    text: bytes
 
 
 class Play:
-    """`lines` has the scenario, `marks` for each line the numbers drawn and the unreported ones."""
+    """`lines` has the scenario, `due` what is due for each line."""
 
     def __init__(self):
         self.model = Model()
+        self.view = model_text.View()
         self.lines = []
-        self.marks = []
+        self.due = []
 
-    def write(self, line, numbers=()):
+    def write(self, line, answer, numbers=(), most=None):
+        model = self.model
+        verb = line.partition(" ")[0]
+        text, shows = "%s %s" % (verb, answer), self.view.shows(verb)
+        if shows:
+            text += "\n" + self.view.state(model)
+        drawn = tuple([number for number in numbers if number])
         self.lines.append(line)
-        drawn = tuple(n for n in numbers if n)
-        silent = tuple(self.model.silent)
-        self.marks.append((drawn, silent) if drawn or silent else NOTHING)
-        self.model.silent = []
+        self.due.append(Due(drawn, tuple(model.silent), shows and model.broken(lends=True), most, text.encode()))
+        model.silent = []
 
     def new(self, log, costs, first):
         number = self.model.build(log, costs, first)
-        words = ["%s:%s" % (name, floats.text(amount)) for name, amount in costs]
-        self.write(joined("new", str(log), words, "/", [quote_text(q) for q in first]), [number])
+        self.write(lines.new(log, costs, first), model_text.worded(number, "built"), [number])
 
     def lend(self, log):
         self.model.lent = log
-        self.write("lend %d" % log)
+        self.write(lines.lend(log), "lent")
 
     def amount(self, verb, amount):
-        numbers = [getattr(self.model, verb)(amount)]
-        self.write("%s %s" % (verb, floats.text(amount)), numbers)
+        number = getattr(self.model, verb)(amount)
+        self.write(lines.amount(verb, amount), model_text.cash(number, amount), [number])
 
     def order(self, verb, order):
-        numbers = [getattr(self.model, verb)(order)]
-        self.write("%s %s" % (verb, order_text(order)), numbers)
+        number = getattr(self.model, verb)(order)
+        self.write(lines.order(verb, order), model_text.event(number, order), [number])
 
     def send_list(self, room, orders):
         number, events = self.model.send_list(room, orders)
-        self.write(joined("send_list", str(room), [order_text(o) for o in orders]), [number] + events)
+        answer = model_text.events(number, events)
+        self.write(lines.send_list(room, orders), answer, [number] + [event[0] for event in events])
 
     def delete(self, number):
         drawn = self.model.delete(number)
-        self.write("delete %d" % number, [drawn])
+        self.write(lines.delete(number), model_text.worded(drawn, "done"), [drawn])
 
     def check(self, tradable, fetched):
-        number = self.model.check(tradable, fetched)
-        rows = [quote_text(q) for q in tradable] + ["/"] + [quote_text(q) for q in fetched]
-        self.write(joined("check", rows), [number])
+        number, traded, queued = self.model.check(tradable, fetched)
+        answer = model_text.checked(number, traded, queued)
+        self.write(lines.check(tradable, fetched), answer, [number], None if number else len(self.model.held))
 
     def walk(self, room, weights):
-        number = self.model.walk(room, weights)
-        self.write(joined("walk", str(room), [weight_text(w) for w in weights]), [number])
+        number, orders = self.model.walk(room, weights)
+        answer = model_text.counted(number, [words.order(order) for order in orders])
+        self.write(lines.walk(room, weights), answer, [number])
 
     def update(self, room, tradable, fetched, weights):
         number, events = self.model.update(room, tradable, fetched, weights)
-        rows = [quote_text(q) for q in tradable] + ["/"] + [quote_text(q) for q in fetched] + ["/"]
-        rows += [weight_text(w) for w in weights]
-        self.write(joined("update", str(room), rows), [number] + events)
+        answer = model_text.updated(number, self.model, events)
+        numbers = [number] + [event[0] for event in events]
+        self.write(lines.update(room, tradable, fetched, weights), answer, numbers)
 
-    def read(self, verb, symbol=None):
-        lends = verb in ("cost_basis", "turnover")
-        number = 16 if self.model.broken(lends) else 0
-        if symbol is None:
-            self.write(verb, [number])
-        else:
-            self.write("%s %d" % (verb, symbol), [number or (1 if symbol > 255 else 0)])
+    def read(self, verb):
+        number = 16 if self.model.broken(lends=verb == "turnover") else 0
+        self.write(lines.read(verb), model_text.worded(number, model_text.FIGURES[verb](self.model)), [number])
+
+    def symbol_read(self, verb, symbol):
+        number = self.model.symbol_read(verb == "cost_basis", symbol)
+        answer = model_text.worded(number, model_text.OF_SYMBOL[verb](self.model, symbol))
+        self.write(lines.read(verb, symbol), answer, [number])
 
     def list_read(self, verb, room):
-        self.write("%s %d" % (verb, room), [self.model.list_read(verb, room)])
+        number = self.model.list_read(verb, room)
+        self.write(lines.read(verb, room), model_text.counted(number, model_text.LISTS[verb](self.model)), [number])
 
-    def cost_call(self, verb, one, other, side=None):
-        number = 16 if self.model.dead else 0
-        if not (floats.finite(one) and floats.finite(other)):
-            number = number or 2
-        words = [verb, floats.text(one), floats.text(other)] + ([side] if side else [])
-        self.write(" ".join(words), [number])
+    def impact(self, budget, price, side):
+        number = self.model.cost_call(budget, price)
+        answer = model_text.impacted(number, self.model.costs, budget, price, side)
+        self.write(lines.figures("trade_impact_total", budget, price, side), answer, [number])
+
+    def charges(self, quantity, value):
+        number = self.model.cost_call(quantity, value)
+        answer = model_text.charged(number, self.model.costs, quantity, value)
+        self.write(lines.figures("calculate_trade_costs", quantity, value), answer, [number])
 
     def rounding(self, verb, x):
-        self.write("%s %s" % (verb, floats.text(x)))
+        self.write(lines.amount(verb, x), floats.text({"floor": floats.floor, "ceil": floats.ceil}[verb](x)))
 
     def word(self, word):
-        self.write(word)
+        self.write(word, "shown" if word == "state" else word)

@@ -2,9 +2,9 @@
 orders are taken and trade, and a good part of the calls stands exactly on a rule's boundary."""
 
 import amounts
-import floats
 from market import Market
 from play import Play
+from scenario import floats
 
 KINDS = ["mb", "ms", "lb", "ls", "sb", "ss"]
 SYMBOL_READS = ["get_quote", "get_position_qty", "get_pending_order", "get_position_value",
@@ -278,7 +278,7 @@ class Player:
             self.play.list_read(verb, self.model.rows(verb) + rng.choice([0, 0, 1, 20]))
         else:
             symbol = rng.choice(self.mix.symbols + self.mix.hidden + [rng.randint(0, 255)])
-            self.play.read(rng.choice(SYMBOL_READS), symbol)
+            self.play.symbol_read(rng.choice(SYMBOL_READS), symbol)
 
     def figure(self):
         """A call of a cost function or a rounding."""
@@ -289,9 +289,9 @@ class Player:
             return
         one, other = (amounts.wild(rng), amounts.wild(rng)) if rng.random() < 0.5 else (self.money(), self.money())
         if choice < 0.7:
-            self.play.cost_call("trade_impact_total", one, other, rng.choice(["buy", "sell"]))
+            self.play.impact(one, other, rng.choice(["buy", "sell"]))
         else:
-            self.play.cost_call("calculate_trade_costs", one, other)
+            self.play.charges(one, other)
 
     def state(self):
         self.play.word("state")
@@ -367,10 +367,10 @@ class Player:
             lambda: play.walk(max(len(weights) - 1, 0), weights),
             lambda: play.update(rng.choice([len(weights), 0, 512]), bad_tradable, bad_fetched, bad_weights),
             lambda: play.lend(rng.choice([0, self.mix.log + 1, self.mix.log - 1 if self.mix.log else 1])),
-            lambda: play.read(rng.choice(SYMBOL_READS), rng.choice([256, 300, 4294967295])),
+            lambda: play.symbol_read(rng.choice(SYMBOL_READS), rng.choice([256, 300, 4294967295])),
             self.cramped_read,
-            lambda: play.cost_call("trade_impact_total", self.bad(), 1.0, "buy"),
-            lambda: play.cost_call("calculate_trade_costs", 1.0, self.bad()),
+            lambda: play.impact(self.bad(), 1.0, "buy"),
+            lambda: play.charges(1.0, self.bad()),
             lambda: play.new(8, [amounts.cost(rng, False) for _ in range(rng.choice([17, 32]))], fetched),
             lambda: play.new(8, [("flat", self.bad())], fetched),
             lambda: play.new(8, self.mix.costs, self.bad_table(fetched)),

@@ -8,9 +8,10 @@ class Crash(Exception):
 
 
 def answers(program, text, limit=600):
-    """What a program writes to standard output for this input, both in bytes."""
+    """What a program, a path or the words of a command, writes to standard output for this input, in bytes."""
+    words = [program] if isinstance(program, str) else program
     try:
-        done = subprocess.run([program], input=text, stdout=subprocess.PIPE, stderr=subprocess.PIPE, timeout=limit)
+        done = subprocess.run(words, input=text, stdout=subprocess.PIPE, stderr=subprocess.PIPE, timeout=limit)
     except subprocess.TimeoutExpired:
         raise Crash("%s took more than %d seconds" % (program, limit))
     if done.returncode != 0:

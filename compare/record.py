@@ -1,15 +1,17 @@
 """Records the answers that the gate replays: runs the engine and the Rust on crates/rehearse/stdin and
 writes crates/rehearse/stdout, and the lists at the end of docs/RECORDED.md. A line's answer is the Rust's
-until the engine draws an added number or the Rust panics; from there to the next `new` it is the engine's
-and rests on document 01 alone. Exit status 1 where the two differ before that, or, with --check, where
-the files are not what would be written."""
+until an added number is due or the Rust panics; from there to the next `new` it rests on document 01 alone,
+by model.py, which the engine must equal on every line. Exit status 1 where the engine differs from either, or,
+with --check, where the files are not what would be written."""
 
 import argparse
 import os
 import sys
 
-# Nothing is written beside the sources.
+ROOT = os.path.dirname(os.path.dirname(os.path.abspath(__file__)))
+# Nothing is written beside the sources; tools/ has the shared package.
 sys.dont_write_bytecode = True
+sys.path.insert(0, os.path.join(ROOT, "tools"))
 
 import forms
 import judge
@@ -17,7 +19,6 @@ import programs
 import table
 from reread import reread
 
-ROOT = os.path.dirname(os.path.dirname(os.path.abspath(__file__)))
 INPUT = os.path.join(ROOT, "crates", "rehearse", "stdin")
 OUTPUT = os.path.join(ROOT, "crates", "rehearse", "stdout")
 PAPER = os.path.join(ROOT, "docs", "RECORDED.md")
@@ -29,21 +30,21 @@ OWN_WORDS = ("quiet", "full")
 
 
 class Recording:
-    """The output; the lines that are the oracle's and those that are the engine's; who draws what."""
+    """The output; the lines that are the oracle's and those that are the model's; who draws what."""
 
     def __init__(self):
         self.output = b""
-        self.oracle, self.engine = [], []
+        self.oracle, self.model = [], []
         self.drawn, self.silent = {}, {}
 
     def add(self, number, block, decided):
         self.output += block + b"\n"
-        (self.oracle if decided else self.engine).append(number)
+        (self.oracle if decided else self.model).append(number)
 
-    def note(self, number, verb, mark):
-        for drawn in sorted(set(mark[0])):
+    def note(self, number, verb, due):
+        for drawn in sorted(set(due.drawn)):
             self.drawn.setdefault(drawn, {}).setdefault(verb, []).append(number)
-        for drawn in sorted({n for n in mark[1] if n != "unquoted"}):
+        for drawn in sorted({n for n in due.silent if n != "unquoted"}):
             self.silent.setdefault(drawn, []).append(number)
 
 
@@ -58,39 +59,36 @@ def run(program, text, lines):
     blocks = judge.blocks(programs.answers(program, text))
     if len(blocks) != len(lines):
         raise judge.Difference("%s answers %d lines of %d" % (program, len(blocks), len(lines)))
-    for (number, _line), block in zip(lines, blocks):
-        if not block.startswith(b"%d " % number):
-            raise judge.Difference("%s does not answer line %d in its place" % (program, number))
     return blocks
 
 
 def record(text, engine, oracle):
-    """The recording; raises Difference where the two programs differ and the oracle decides."""
+    """The recording; raises Difference where the engine differs from the oracle or the model."""
     lines = answered(text)
     recording = Recording()
     judging = judge.Judge(judge.Tally())
-    marks = iter(reread([line.decode() for _number, line in lines if not forms.malformed(line, LOG_ROWS)]).marks)
+    dues = iter(reread([line.decode() for _number, line in lines if not forms.malformed(line, LOG_ROWS)]).due)
     for (number, line), one, other in zip(lines, run(engine, text, lines), run(oracle, text, lines)):
         decided = True
         if forms.malformed(line, LOG_ROWS):
             if one != b"%d malformed" % number:
                 raise judge.Difference("line %d is malformed" % number)
         else:
-            decided = judged(recording, judging, number, line.decode(), next(marks), one, other)
+            decided = judged(recording, judging, number, line.decode(), next(dues), one, other)
         if decided and one != other:
             raise judge.Difference("line %d: the answers or states differ" % number)
         recording.add(number, other if decided else one, decided)
     return recording
 
 
-def judged(recording, judging, number, line, mark, one, other):
-    """Does the oracle decide the answer to this line? Its numbers are compared with document 01's anyway."""
+def judged(recording, judging, number, line, due, one, other):
+    """Does the oracle decide the answer to this line? The engine's is compared with the model's anyway."""
     verb = line.split()[0]
     try:
-        judging.line(line, mark, one, other)
+        judging.line(line, due, judge.said(one, number), judge.said(other, number))
     except judge.Difference as difference:
         raise judge.Difference("line %d: %s" % (number, difference))
-    recording.note(number, verb, mark)
+    recording.note(number, verb, due)
     return judging.stopped is None or verb in OWN_WORDS
 
 
@@ -117,8 +115,8 @@ def lists(recording):
         by_call = "; ".join("`%s` %s" % (verb, ranges(at)) for verb, at in calls)
         rows.append("| %d | %s | %s |" % (number, by_call, ranges(recording.silent.get(number, []))))
     rows += ["", "## Lines that rest on document 01 alone", "",
-             "%d of %d answered lines:" % (len(recording.engine), len(recording.engine + recording.oracle)), "",
-             ranges(recording.engine) + ".", ""]
+             "%d of %d answered lines:" % (len(recording.model), len(recording.model + recording.oracle)), "",
+             ranges(recording.model) + ".", ""]
     return "\n".join(rows)
 
 
@@ -155,7 +153,7 @@ def main():
             recording = record(text.read(), given.engine, given.oracle)
         except (judge.Difference, programs.Crash) as fault:
             sys.exit("not recorded: %s" % fault)
-    print("%d lines are the oracle's, %d rest on document 01 alone" % (len(recording.oracle), len(recording.engine)))
+    print("%d lines are the oracle's, %d rest on document 01 alone" % (len(recording.oracle), len(recording.model)))
     wrong = [(path, content) for path, content in files(recording) if stale(path, content)]
     for path, content in wrong:
         print("%s %s" % (os.path.relpath(path, ROOT), "is not as recorded" if given.check else "is written"))

@@ -1,18 +1,10 @@
 #!/bin/sh
-# Compares the engine with the Rust. Builds what is missing, then calls compare.py with the same options.
+# Compares the engine with the Rust and with document 01's model, by compare.py, which takes the same options.
+# Builds what is out of date; the engine not, where --engine names one.
 set -eu
-
 root=$(cd "$(dirname "$0")/.." && pwd)
-
-if [ ! -x "$root/target/oracle/bent" ] || [ ! -x "$root/target/oracle/unchanged" ]; then
-    "$root/oracle/build.sh"
-fi
 case " $* " in
-*" --engine"*) ;;
-*)
-    if [ ! -x "$root/target/bin/rehearse" ]; then
-        (cd "$root" && rt check rehearse)
-    fi
-    ;;
+*" --engine"*) "$root/tools/build.sh" oracle ;;
+*) "$root/tools/build.sh" oracle engine ;;
 esac
 exec python3 -B "$root/compare/compare.py" "$@"

@@ -2,11 +2,13 @@
 of boundaries.py. As a program it prints them: scenarios.py [--seed N] [--count N]."""
 
 import argparse
+import os
 import random
 import sys
 
-# Nothing is written beside the sources.
+# Nothing is written beside the sources; tools/ has the shared package.
 sys.dont_write_bytecode = True
+sys.path.insert(0, os.path.join(os.path.dirname(os.path.dirname(os.path.abspath(__file__))), "tools"))
 
 import amounts
 import boundaries

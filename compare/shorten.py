@@ -9,7 +9,6 @@ from reread import reread
 
 def fault(lines, engine, oracle):
     """The first difference in these lines: its place and what it is, or None."""
-    play = reread(lines)
     text = ("\n".join(lines) + "\n").encode()
     try:
         one = judge.blocks(programs.answers(engine, text))
@@ -18,12 +17,10 @@ def fault(lines, engine, oracle):
         return len(lines) - 1, str(crash)
     if len(one) != len(lines) or len(other) != len(lines):
         return len(lines) - 1, "%d lines were answered by %d and %d" % (len(lines), len(one), len(other))
-    judging = judge.Judge(judge.Tally())
-    for at, line in enumerate(lines):
-        try:
-            judging.line(line, play.marks[at], one[at], other[at])
-        except judge.Difference as difference:
-            return at, str(difference)
+    try:
+        judge.judge_lines(judge.Judge(judge.Tally()), lines, reread(lines).due, one, other)
+    except judge.Fault as found:
+        return found.at, found.what
     return None
 
 
@@ -50,20 +47,35 @@ def shorter(lines, engine, oracle, most=400):
     return lines
 
 
+def written(folder, name, content):
+    os.makedirs(folder, exist_ok=True)
+    path = os.path.join(folder, name)
+    with open(path, "wb") as out:
+        out.write(content)
+    return path
+
+
+def said(program, text):
+    try:
+        return programs.answers(program, text)
+    except programs.Crash as crash:
+        return str(crash).encode()
+
+
+def by_model(lines):
+    """What is due by the model, as a program would write it."""
+    due = reread(lines).due
+    return b"".join(b"%d %s\n" % (number, one.text) for number, one in enumerate(due, 1))
+
+
 def report(folder, name, lines, engine, oracle):
-    """Writes the shortened scenario with both programs' answers; says what and where."""
+    """Writes the shortened scenario with the answers of both programs and of the model; says what and where."""
     lines = shorter(lines, engine, oracle)
     found = fault(lines, engine, oracle)
     text = ("\n".join(lines) + "\n").encode()
-    os.makedirs(folder, exist_ok=True)
-    path = os.path.join(folder, name + ".txt")
-    with open(path, "wb") as out:
-        out.write(text)
-    for title, program in (("engine", engine), ("oracle", oracle)):
-        with open(os.path.join(folder, "%s.%s" % (name, title)), "wb") as out:
-            try:
-                out.write(programs.answers(program, text))
-            except programs.Crash as crash:
-                out.write(str(crash).encode())
+    path = written(folder, name + ".txt", text)
+    written(folder, name + ".engine", said(engine, text))
+    written(folder, name + ".oracle", said(oracle, text))
+    written(folder, name + ".model", by_model(lines))
     what = "it is gone when run alone" if found is None else "line %d: %s" % (found[0] + 1, found[1])
     return "%s (%d lines): %s" % (path, len(lines), what)

@@ -33,12 +33,14 @@ class SinglePlayer(Player):
 
     def guarded(self, call):
         kept = {key: copy.copy(value) for key, value in vars(self.model).items() if key != "take"}
+        view = dict(vars(self.play.view))
         count = len(self.play.lines)
         self.crowded = False
         call()
         if self.crowded:
             vars(self.model).update(kept)
-            del self.play.lines[count:], self.play.marks[count:]
+            vars(self.play.view).update(view)
+            del self.play.lines[count:], self.play.due[count:]
 
     def quoted(self):
         return self.one if self.one in self.model.latest else None

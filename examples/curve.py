@@ -9,8 +9,9 @@ import pathlib
 import sys
 
 import picture
-import words
-from words import money, number
+from answers import answered, calls, money
+from scenario.floats import number
+from scenario.words import read_quote
 
 
 class Day:
@@ -22,14 +23,14 @@ class Day:
 
 
 def date_of(row):
-    digits = row.split(":")[3]
+    digits = str(read_quote(row)[3])
     return datetime.date(int(digits[:4]), int(digits[4:6]), int(digits[6:]))
 
 
 def days(scenario, answers):
     """Every trading day, in order."""
     found, paid_in = [], 0.0
-    for at, (name, *rest) in words.calls(scenario):
+    for at, (name, *rest) in calls(scenario):
         answer = answers[at].words
         if name == "deposit":
             paid_in += number(answer[1])
@@ -46,7 +47,7 @@ def days(scenario, answers):
 
 def faults(scenario, answers):
     """What did not go as a savings plan should: calls unanswered or refused, orders refused."""
-    for at, (name, *_) in words.calls(scenario):
+    for at, (name, *_) in calls(scenario):
         answer = answers.get(at)
         if answer is None or answer.call != name:
             yield f"line {at}: {name} is not answered"
@@ -105,7 +106,7 @@ def disagreements(rows, state, added):
 
 def main(scenario_path, answers_path, folder):
     scenario = pathlib.Path(scenario_path).read_text()
-    answers = words.answers(pathlib.Path(answers_path).read_text())
+    answers = answered(pathlib.Path(answers_path).read_text())
     wrong = list(faults(scenario, answers))
     if wrong:
         sys.exit("\n".join(wrong))

@@ -7,7 +7,7 @@ import pathlib
 import sys
 
 import meanings
-import words
+from answers import answered, calls
 
 
 def expectations(scenario):
@@ -52,9 +52,9 @@ def explain(call, answer, before, expected):
 
 def main(scenario_path, answers_path):
     scenario = pathlib.Path(scenario_path).read_text()
-    answers = words.answers(pathlib.Path(answers_path).read_text())
+    answers = answered(pathlib.Path(answers_path).read_text())
     expected, before, wrong = expectations(scenario), None, 0
-    for call in words.calls(scenario):
+    for call in calls(scenario):
         answer = answers.get(call[0])
         wrong += not explain(call, answer, before, expected[call[0]])
         before = answer or before

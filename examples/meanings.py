@@ -1,5 +1,7 @@
 """What document 01's numbers mean, and its calls and answers in plain English."""
-from words import money, number
+from answers import money
+from scenario.floats import number
+from scenario.words import read_order, read_quote
 
 # Numbers that a sender, a cash mover, a supplier of tables or a lender draws.
 MEANINGS = {
@@ -24,17 +26,16 @@ KINDS = {"m": "market", "l": "limit", "s": "stop"}
 
 
 def order(word):
-    kind, symbol, shares, price = word.split(":")
-    at = "" if price == "-" else f" at {money(number(price))}"
-    return f"{KINDS[kind[0]]} {'buy' if kind[1] == 'b' else 'sale'} of {number(shares):g} of symbol {symbol}{at}"
+    kind, symbol, shares, price = read_order(word)
+    at = "" if price is None else f" at {money(price)}"
+    return f"{KINDS[kind[0]]} {'buy' if kind[1] == 'b' else 'sale'} of {shares:g} of symbol {symbol}{at}"
 
 
 def table(rows):
     """Quotes as `symbol 0 at 99.00 / 100.00`."""
     found = []
-    for row in rows:
-        symbol, bid, ask, _ = row.split(":")
-        found.append(f"symbol {symbol} at {money(number(bid))} / {money(number(ask))}")
+    for symbol, bid, ask, _ in map(read_quote, rows):
+        found.append(f"symbol {symbol} at {money(bid)} / {money(ask)}")
     return ", ".join(found) or "no quotes"
 
 

@@ -6,7 +6,7 @@ cd "$(dirname "$0")/.."
 program=${REHEARSE:-target/bin/rehearse}
 work=target/examples
 mkdir -p "$work"
-[ -x "$program" ] || rt check rehearse
+[ -n "${REHEARSE:-}" ] || tools/build.sh engine
 
 "$program" < examples/refused.txt > "$work/refused.answers"
 python3 -B examples/explain.py examples/refused.txt "$work/refused.answers"

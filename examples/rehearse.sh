@@ -7,7 +7,7 @@ cd "$(dirname "$0")/.."
 program=${REHEARSE:-target/bin/rehearse}
 work=target/examples
 mkdir -p "$work"
-[ -x "$program" ] || rt check rehearse
+[ -n "${REHEARSE:-}" ] || tools/build.sh engine
 
 python3 -B examples/savings_mix.py > "$work/savings-mix.txt"
 "$program" < "$work/savings-mix.txt" > "$work/savings-mix.answers"

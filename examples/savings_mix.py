@@ -3,8 +3,8 @@
 The securities and every quote are made up by this rule, so that each machine gets the same text.
 
 Days: Monday to Friday from 2021 to 2025, without 1 January, Good Friday, Easter Monday, 1 May, 25 and 26 December.
-Draws: a state of 32 bits starts at SEED and steps by 1,664,525 times itself plus 1,013,904,223, modulo 2^32; a draw is
-the new state divided by 65,536, whole part. A shock is the sum of twelve draws over 65,536, less 6: about normal, mean 0, deviation 1.
+Draws: those of tools/scenario/draws.py from SEED on. A shock is the sum of twelve draws over 65,536, less 6: about normal, mean 0,
+deviation 1.
 Quotes: each day has a common shock, then one of its own for each security in turn. Its mid moves by
 drift / 252 + volatility / sqrt(252) * (c * common + sqrt(1 - c * c) * own) of itself and is rounded to cents.
 Bid and ask lie 0.05 % of the mid, rounded up to cents, below and above it.
@@ -17,8 +17,14 @@ Costs: 0.1 % of the value and 1 flat. They make orders smaller; the engine does 
 """
 import datetime
 import math
+import os
+import sys
 
-import words
+# tools/ has the shared package.
+sys.path.insert(0, os.path.join(os.path.dirname(os.path.dirname(os.path.abspath(__file__))), "tools"))
+
+from scenario import lines
+from scenario.draws import Draws
 
 SEED = 35
 FIRST_PAYMENT = 20000.0
@@ -40,16 +46,8 @@ MIX = [
 ]
 
 
-class Draws:
-    def __init__(self, seed):
-        self.state = seed
-
-    def shock(self):
-        total = 0
-        for _ in range(12):
-            self.state = (self.state * 1664525 + 1013904223) % 2**32
-            total += self.state // 65536
-        return total / 65536 - 6
+def shock(draws):
+    return sum(draws.draw() for _ in range(12)) / 65536 - 6
 
 
 def closed(day):
@@ -71,27 +69,26 @@ def table(cents, date):
     rows = []
     for symbol, mid in enumerate(cents):
         half = math.ceil(mid / 2000)
-        rows.append(words.quote(symbol, (mid - half) / 100, (mid + half) / 100, date))
-    return " ".join(rows)
+        rows.append((symbol, (mid - half) / 100, (mid + half) / 100, date))
+    return rows
 
 
 def moved(cents, draws):
     """The next day's mids."""
-    common, mids = draws.shock(), []
+    common, mids = shock(draws), []
     for mid, (_, _, _, drift, volatility, c) in zip(cents, MIX):
-        shock = c * common + math.sqrt(1 - c * c) * draws.shock()
-        mids.append(round(mid * (1 + drift / 252 + volatility / math.sqrt(252) * shock)))
+        mixed = c * common + math.sqrt(1 - c * c) * shock(draws)
+        mids.append(round(mid * (1 + drift / 252 + volatility / math.sqrt(252) * mixed)))
     return mids
 
 
 def day_lines(rows, payment):
     """A trading day: the payment and the rebalancing where one is due, and the figures of the evening."""
     if payment:
-        parts = " ".join(words.weight(s, row[1]) for s, row in enumerate(MIX))
-        yield f"deposit {words.bits(payment)}"
-        yield f"update {len(MIX)} {rows} / {rows} / {parts}"
+        yield lines.amount("deposit", payment)
+        yield lines.update(len(MIX), rows, rows, [(symbol, row[1]) for symbol, row in enumerate(MIX)])
     else:
-        yield f"check {rows} / {rows}"
+        yield lines.check(rows, rows)
     yield from ("get_total_value", "get_cash_balance", "executed_trade_count")
 
 
@@ -103,10 +100,9 @@ def scenario():
         yield f"# name {symbol} {row[0]}"
     yield "quiet"
     for day in trading_days():
-        rows = table(cents, f"{day:%Y%m%d}")
+        rows = table(cents, int(f"{day:%Y%m%d}"))
         if month is None:
-            costs = f"pct_of_value:{words.bits(0.001)} flat:{words.bits(1.0)}"
-            yield f"new {LOG} {costs} / {rows}"
+            yield lines.new(LOG, [("pct_of_value", 0.001), ("flat", 1.0)], rows)
         payment = 0.0 if month == day.month else MONTHLY_PAYMENT if month else FIRST_PAYMENT
         yield from day_lines(rows, payment)
         month, cents = day.month, moved(cents, draws)

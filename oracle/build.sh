@@ -1,6 +1,7 @@
 #!/bin/sh
 # Builds the oracle's four drivers, offline, into target/oracle/: unchanged, bent, mended and bent_mended.
 # Each is built from a copy in target/oracle/work/; what is changed in a copy is counted, and any other count fails.
+# With --changed, only where the sources' sum is not the one that the last build left in target/oracle/sources.sum.
 set -eu
 here=$(cd "$(dirname "$0")" && pwd)
 out=$(dirname "$here")/target/oracle
@@ -12,6 +13,19 @@ broker_traits=rotala-client/src/broker/mod.rs
 broker=rotala-client/src/broker/uist.rs
 strategy=rotala-client/src/strategy/staticweight.rs
 schedule=rotala-client/src/schedule/mod.rs
+
+# One sum over every file that the programs are made from, this script among them.
+sources_sum() {
+    (cd "$here" && find . -type f ! -name README.md | LC_ALL=C sort | xargs sha256sum | sha256sum)
+}
+
+# Are all four programs there, built from sources of this sum?
+is_built() {
+    for variant in unchanged bent mended bent_mended; do
+        [ -x "$out/$variant" ] || return 1
+    done
+    [ "$(cat "$out/sources.sum" 2>/dev/null)" = "$sum" ]
+}
 
 # copy VARIANT: the oracle as it is, but for its build products.
 copy() {
@@ -74,8 +88,14 @@ build() {
     echo "built target/oracle/$1"
 }
 
+sum=$(sources_sum)
+if [ "${1:-}" = --changed ] && is_built; then
+    exit 0
+fi
 (cd "$here/published" && sha256sum --check --strict --quiet SHA256SUMS)
 mkdir -p "$work"
+# The old sum goes first: a build that fails leaves none.
+rm -f "$out/sources.sum"
 for variant in unchanged bent mended bent_mended; do
     copy "$variant"
 done
@@ -91,3 +111,4 @@ expect_all bent_mended 1 1
 for variant in unchanged bent mended bent_mended; do
     build "$variant"
 done
+echo "$sum" > "$out/sources.sum"

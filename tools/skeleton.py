@@ -1,59 +1,37 @@
 #!/usr/bin/env python3
-"""skeleton.py CRATE FN: print a proof file to start from, for a function over slices of structs or references to structs.
+"""skeleton.py: print what a proof by derivation starts from, for functions over slices of structs or references to structs. Run it in the repository.
 
-Run it in the repository. It reads the function's MIR (`rt mir CRATE`) and writes the derivation in the steps of the crate `walks`,
-one line for each statement: what is live is dropped where the code leaves, what is lent comes back after the call (a slice, whole or its
-first rows, a local struct, the first rows of a local array).
-What it cannot know is written TODO: the contract, a loop's invariant and measure, and the condition, `asked`, which is a hole.
+    skeleton.py CRATE FN                        the proof file of FN, a function's path below its crate, as uist/check
+    skeleton.py --callees CRATE FN ..           the stanzas of the covered functions that FN calls, but for those that stand in a file
+    skeleton.py --callees CRATE KEY ..          the stanzas of the functions with these keys; KEY=NAME names one otherwise
+    skeleton.py --callees CRATE                 a file with the stanzas of all covered functions that the crate's derivations call
+    skeleton.py --callees CRATE .. --into FILE  puts those of them that stand in no file into FILE
+    skeleton.py --check [CRATE ..]              the stanzas that stand, held to what would be printed
+
+A stanza is what a derivation needs of a function that it calls; stanzas.py says what it is made of. As an example,
+
+    tools/skeleton.py --callees lent market::table::ReadTable::of=table-of
+
+prints the stanza that crates/lent/proofs/Callees.antt has of that function. (KEY='mover creditOf' is for a record that several functions share
+but for their keys: of these the lemma alone is printed.) A callee that is proved by hand itself has its stanza in the proof file of its caller.
+
+The derivation has one line for each statement of the function's MIR (`rt mir CRATE`): what is live is dropped where the code leaves, what is lent
+comes back after the call (a slice, whole or its first rows, a local struct, the first rows of a local array).
+What is not known is written TODO: the contract, a loop's invariant and measure, and the condition, `asked`, which is a hole.
 A row type is written by its struct's name in small letters (`OrderEvent`: order-event), as the crate's Rows.antt is to name it.
 Nothing depends on this file: the prover checks what it printed like any other text.
 """
 import re
-import subprocess
 import sys
+
+sys.dont_write_bytecode = True
+from mir import body, called, function, items, kebab, lifetimes, lists, params, types
+from stanzas import callees, check, imports, page, put, steps
 
 HERE = "(λ u. refl) (λ u. tt)"
 
 
-# ---- reading the MIR
-
-def parse(text):
-    """The S-expressions of a text, as nested lists of strings."""
-    stack = [[]]
-    for token in re.findall(r'\(|\)|"[^"]*"|[^\s()]+', text):
-        if token == "(":
-            stack.append([])
-        elif token == ")":
-            done = stack.pop()
-            stack[-1].append(done)
-        else:
-            stack[-1].append(token.strip('"'))
-    return stack[0]
-
-
-def items(chain):
-    """A chain `lcons x (lcons y lnil)` as a list."""
-    found = []
-    while chain != "lnil":
-        found.append(chain[1])
-        chain = chain[2]
-    return found
-
-
-def functions(tree):
-    """Each function of a parsed program, by its key."""
-    if isinstance(tree, list):
-        if tree and tree[0] == "fn-def":
-            yield tree[1], tree[2]
-        for part in tree:
-            yield from functions(part)
-
-
 # ---- types
-
-def kebab(name):
-    return re.sub(r"(?<=[a-z0-9])(?=[A-Z])", "-", name).lower().replace("_", "-")
-
 
 def kin(ty):
     """The row type of a declared type."""
@@ -108,31 +86,28 @@ def pointer(ref):
     return "(ptrTo %s %s erased)" % (row, mutability)
 
 
-def pointer_counts(body):
+def pointer_counts(code):
     """Of each slice that is made, the pointer's local and the operand of the length."""
-    if isinstance(body, list):
-        if body and body[0] == "aggregate":
-            parts = items(body[1])
-            if len(parts) == 2 and parts[0][0] == "copy":
-                yield int(parts[0][1][1]), parts[1]
-        for part in body:
-            yield from pointer_counts(part)
+    for made in lists(code, "aggregate"):
+        parts = items(made[1])
+        if len(parts) == 2 and parts[0][0] == "copy":
+            yield int(parts[0][1][1]), parts[1]
 
 
 # ---- the derivation
 
 class Derivation:
-    def __init__(self, function):
-        self.lifetimes, self.params = int(function[1]), int(function[3])
-        self.locals = [local[1] for local in items(function[4])]
+    def __init__(self, fn, called_ones):
+        self.lifetimes, self.params = lifetimes(fn), params(fn)
+        self.locals = types(fn)
+        self.callees = called_ones  # in the order of the calls
         self.live = set(range(1, self.params + 1))
         self.index = {}  # a local that holds index × size: the index's local
         self.into = {}  # a pointer into an array or a slice: (the local that it points into, the index's local)
         self.lent = {}  # a loan: (the local that is lent, the loan's slot)
-        self.counts = dict(pointer_counts(function[5]))  # the pointer of a slice: the operand of its length
+        self.counts = dict(pointer_counts(body(fn)))  # the pointer of a slice: the operand of its length
         self.parts = {}  # a loan of a slice's first rows, and its pointer: "-part"
         self.loans = 0  # the most loans at a time
-        self.callees = []  # their keys, in the order of the calls
         self.heads = []  # the table at each loop's head
 
     # what a local is, as the steps ask it
@@ -212,14 +187,14 @@ class Derivation:
 
     def call(self, statement):
         key, args, x = statement[1][1][1], items(statement[2]), int(statement[3][1])
-        if key not in self.callees:
-            self.callees.append(key)
+        which = [callee.key for callee in self.callees].index(key)
         passed = [int(a[1][1]) for a in args if a[0] == "copy" and reference(self.locals[int(a[1][1])]) is not None]
         slots = " ∷ ".join([str(self.slot(n)) for n in passed] + ["[]"])
         known = "tt"
         for _ in passed:
             known = "(tt, %s)" % known
-        step = "calls %s (kn .%d) %s (%s) %d %s %s refl" % (kebab(key.split("::")[-1]), self.callees.index(key), "(%s)" % slots if passed else "[]", " & ".join([self.argument(a) for a in args] + ["no-more"]), x, self.free(x), known)
+        kn = "kn" if len(self.callees) == 1 else "(kn .%d)" % which
+        step = "calls %s %s %s (%s) %d %s %s refl" % (self.callees[which].term(), kn, "(%s)" % slots if passed else "[]", " & ".join([self.argument(a) for a in args] + ["no-more"]), x, self.free(x), known)
         self.live.add(x)
         return [step] + [s for n in passed if n in self.lent for s in self.back(n)]
 
@@ -410,52 +385,70 @@ class Derivation:
 
 # ---- the file
 
-def imports(text):
-    """The names of the crate walks that a text uses."""
-    try:
-        exported = open("crates/walks/proofs/Walk.antt").read()
-    except OSError:
-        return "TODO"
+def steps_used(text):
+    """The line that imports the steps that a text uses."""
+    place, names = steps()
     words = set(re.findall(r"[^\s(){};,]+", text.replace(" .", " ")))
-    names = [name for group in re.findall(r"^pub use .*\{(.*)\}$", exported, re.M) for name in group.split(", ")]
-    return ", ".join(name for name in names if all(part in words for part in name.split("_") if part))
+    return "use %s.{%s}" % (place, ", ".join(name for name in names if all(part in words for part in name.split("_") if part)))
 
 
-def main(crate, name):
-    run = subprocess.run(["rt", "mir", crate], capture_output=True, text=True)
-    start = run.stdout.find("program ")
-    if start < 0:
-        sys.exit(run.stdout + run.stderr)
-    key = "%s::%s" % (crate, name.replace("/", "::"))
-    found = dict(functions(parse(run.stdout[start:])))
-    if key not in found:
-        sys.exit("skeleton.py: no function %s; there are %s" % (key, ", ".join(k for k in found if k.startswith(crate + "::"))))
-    derivation = Derivation(found[key])
-    steps = derivation.code(found[key][5], set())
-    callees = [kebab(k.split("::")[-1]) for k in derivation.callees]
-    known = ["knows-%s w code.env code.calls-%s" % (callee, key.replace("::", "·").replace("_", "-")) for key, callee in zip(derivation.callees, callees)]
-    if len(callees) == 1:
-        steps = steps.replace("(kn .0)", "kn")
+def theorem(path, known):
+    """The function's theorem, from what is known of its callees."""
     knows = "(%s)" % known[0] if len(known) == 1 else "(\n      %s,\n    )" % ",\n      ".join(known) if known else "tt"
-    body = ["abbrev U : Sc\nU = sInt w64"]
-    if re.search(r"\bF\b", steps):
-        body.append("abbrev F : Sc\nF = sFloat binary64")
-    body.append("abbrev contract : Contract\ncontract = record { n = %d; ps = TODO; r = TODO; requires = TODO; Pre = λ κs a. TODO; Post = λ κs a z e. TODO }" % derivation.lifetimes)
-    body.append("abbrev Kn : Base → Type 1\nKn o = %s" % (" × ".join("Knows %s o" % c for c in callees) or "NoCalls o"))
-    body.append("abbrev goal : Task\ngoal = task contract %d code.function Kn" % derivation.loans)
-    body += ["-- the locals at the loop's head\nabbrev Hd : List Entry\nHd = %s" % head for head in derivation.heads]
-    body.append("abbrev derived : Derives goal\nderived o kn κs qs bs =\n    %s" % steps)
-    body.append("asked : Owes goal derived\nasked o kn κs qs a good pre bs = ?")
-    spec = kebab(name.split("/")[-1]) + "-spec"
-    body.append("pub %s : {M : Type 1} → statement M\nunfolding code.routine\n%s 𝓤 H 𝓜 𝓖 𝓡 =\n    let w = world 𝓤 H 𝓜 𝓖 𝓡 in\n    closes contract w code.env name code.function (code.unfolded 𝓤 H 𝓜 𝓡) (runs goal derived asked (under w code.env) %s)" % (spec, spec, knows))
-    text = "\n\n".join(body)
-    print("-- `%s`: TODO" % name)
-    print("use Rattle.walks.proofs.Walk.{%s}" % imports(text))
+    spec = kebab(path.split("/")[-1]) + "-spec"
+    return """pub %s : {M : Type 1} → statement M
+unfolding code.routine
+%s 𝓤 H 𝓜 𝓖 𝓡 =
+    let w = world 𝓤 H 𝓜 𝓖 𝓡 in
+    closes contract w code.env name code.function (code.unfolded 𝓤 H 𝓜 𝓡) (runs goal derived asked (under w code.env) %s)""" % (spec, spec, knows)
+
+
+def declarations(fn, found):
+    """What stands before the theorem."""
+    derivation = Derivation(fn, found)
+    code = derivation.code(body(fn), set())
+    parts = ["abbrev U : Sc\nU = sInt w64"]
+    if re.search(r"\bF\b", code):
+        parts.append("abbrev F : Sc\nF = sFloat binary64")
+    parts.append("abbrev contract : Contract\ncontract = record { n = %d; ps = TODO; r = TODO; requires = TODO; Pre = λ κs a. TODO; Post = λ κs a z e. TODO }" % derivation.lifetimes)
+    parts += [part for callee in found if not callee.covered for part in callee.stanza()]
+    parts.append("abbrev Kn : Base → Type 1\nKn o = %s" % (" × ".join("Knows %s o" % callee.term() for callee in found) or "NoCalls o"))
+    parts.append("abbrev goal : Task\ngoal = task contract %d code.function Kn" % derivation.loans)
+    parts += ["-- the locals at the loop's head\nabbrev Hd : List Entry\nHd = %s" % head for head in derivation.heads]
+    parts.append("abbrev derived : Derives goal\nderived o kn κs qs bs =\n    %s" % code)
+    return parts + ["asked : Owes goal derived\nasked o kn κs qs a good pre bs = ?"]
+
+
+def proof(crate, path):
+    """The proof file of a function to start from."""
+    fn = function(crate, path)
+    found = callees(crate, called(fn))
+    text = "\n\n".join(declarations(fn, found) + [theorem(path, [callee.known() for callee in found])])
+    lines = ["-- `%s`: TODO" % path, steps_used(text)] + imports(found)
     for part, how in (("Key", ".{name}"), ("Code", " as code"), ("Statement", ".{statement}")):
-        print("use Rattle.%s.proofs.%s.%s%s" % (crate, name.replace("/", "."), part, how))
-    print("\n%s" % text)
+        lines.append("use Rattle.%s.proofs.%s.%s%s" % (crate, path.replace("/", "."), part, how))
+    return "\n".join(lines) + "\n\n" + text
 
 
-if len(sys.argv) != 3:
-    sys.exit(__doc__)
-main(sys.argv[1], sys.argv[2])
+def stanzas(crate, words):
+    """Print stanzas, or put those that stand nowhere into the file that --into names."""
+    into = words.pop(words.index("--into") + 1) if "--into" in words[:-1] else ""
+    uses, parts = page(crate, [word for word in words if word != "--into"], into)
+    if parts and into:
+        put(into, uses, parts)
+    elif parts:
+        print("\n\n".join(["\n".join(uses)] + parts))
+
+
+def main(words):
+    if words[:1] == ["--check"]:
+        check(words[1:])
+    elif words[:1] == ["--callees"] and len(words) > 1:
+        stanzas(words[1], words[2:])
+    elif len(words) == 2:
+        print(proof(*words))
+    else:
+        sys.exit(__doc__)
+
+
+main(sys.argv[1:])

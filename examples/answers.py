@@ -1,23 +1,11 @@
-"""The words of docs/SCENARIOS.md, written and read, and the answers of a run taken apart."""
-import struct
+"""A scenario's calls and the answers of a run, taken apart."""
+import os
+import sys
 
+# tools/ has the shared package.
+sys.path.insert(0, os.path.join(os.path.dirname(os.path.dirname(os.path.abspath(__file__))), "tools"))
 
-def bits(x):
-    """A float as the 16 hexadecimal digits of its bits."""
-    return struct.pack(">d", x).hex()
-
-
-def number(word):
-    """The float of 16 hexadecimal digits."""
-    return struct.unpack(">d", bytes.fromhex(word))[0]
-
-
-def quote(symbol, bid, ask, date):
-    return f"{symbol}:{bits(bid)}:{bits(ask)}:{date}"
-
-
-def weight(symbol, part):
-    return f"{symbol}:{bits(part)}"
+from scenario.floats import number
 
 
 def money(x):
@@ -53,7 +41,7 @@ class Answer:
         return words[words.index(name) + 1]
 
 
-def answers(text):
+def answered(text):
     """The answers of a run, by line number."""
     found, last = {}, None
     for line in text.splitlines():

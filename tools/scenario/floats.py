@@ -1,4 +1,4 @@
-"""Floats of binary64 for the comparison: their text form, and operations that never raise."""
+"""Floats of binary64: the one place where their text form is written and read, and operations that never raise."""
 
 import math
 import struct
@@ -15,6 +15,11 @@ def text(x):
     if x != x:
         return "7ff8000000000000"
     return struct.pack(">d", x).hex()
+
+
+def number(word):
+    """The float of 16 hexadecimal digits."""
+    return struct.unpack(">d", bytes.fromhex(word))[0]
 
 
 def of_bits(bits):
