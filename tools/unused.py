@@ -58,6 +58,11 @@ def part_used(part, tokens):
     return any(t in tokens for t in (part, "_" + part, part + "_", "_" + part + "_"))
 
 
+def brought(listing, whole):
+    """The names that an import brings in: those of its list, or the whole module's."""
+    return [whole] if listing is None else listed(listing)
+
+
 def unused_antt(text):
     """(line, name) of each unused import of an .antt file. What a `pub use` brings in is for others."""
     code = blanked(blanked(text, STRING), re.compile(r"(?<!\S)--.*"))
@@ -65,8 +70,7 @@ def unused_antt(text):
     for m in ANTT_USE.finditer(code):
         if m.group(2):
             continue
-        names = listed(m.group(4)) if m.group(4) is not None else [m.group(5) or m.group(3).split(".")[-1]]
-        for name in names:
+        for name in brought(m.group(4), m.group(5) or m.group(3).split(".")[-1]):
             if not is_used(name, tokens):
                 yield line_of(text, m.start(3)), name
 
@@ -84,15 +88,13 @@ def unused_rt(text):
     body = blanked(blanked(code, GHOST_USE), RUST_USE)
     tokens = antt_tokens(body)
     for m in GHOST_USE.finditer(code):
-        names = listed(m.group(2)) if m.group(2) is not None else [m.group(3) or m.group(1).split(".")[-1]]
-        for name in names:
+        for name in brought(m.group(2), m.group(3) or m.group(1).split(".")[-1]):
             if not is_used(name, tokens):
                 yield line_of(text, m.start(1)), name
     for m in RUST_USE.finditer(code):
         if m.group(1):
             continue
-        names = listed(m.group(3)) if m.group(3) is not None else [m.group(4) or m.group(2).split("::")[-1]]
-        for name in names:
+        for name in brought(m.group(3), m.group(4) or m.group(2).split("::")[-1]):
             if not rust_used(name, body):
                 yield line_of(text, m.start(2)), name
 
