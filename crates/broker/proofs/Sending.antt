@@ -1,9 +1,9 @@
 -- An order's event by what its tests read, the counts that sends keep, and the loop that sends a list. Assumes nothing.
 use Prim.Native.Nat.{ℕ, zero, suc, _+_, _≤_, _<_, _%_}
 use mathlib.Core.Path.{_≡_, refl, ap, sym, _∙_}
-use mathlib.Core.Bool.{Bool, true, false, not, cond}
+use mathlib.Core.Bool.{Bool, true, false, cond}
 use mathlib.Core.List.{List, [], _∷_, _++_, append-assoc, append-nil}
-use mathlib.Core.Option.{Option, none, some}
+use mathlib.Core.Option.{Option, none}
 use native.Mathlib.Omega.{arith}
 use native.Mathlib.Nat.{mod-eq-of-lt}
 use native.Mathlib.Numerals.{add-one}
@@ -12,115 +12,42 @@ use lib.Dec.{ltb, eqb}
 use lib.Ieee.{Float, nan}
 use lib.ListN.{length, drop, set, getD, length-append, length-take, length-replicate, drop-of-length-le}
 use lib.Seq.{drop-cons, getD-take}
-use Rattle.lists.specs.Lists.{over, All}
+use Rattle.lists.specs.Lists.{over}
 use Rattle.lists.proofs.Over.{over-more}
 use Rattle.costs.specs.declared.TradeCosts.{TradeCosts}
 use Rattle.market.specs.Faults.{Test, _draws_, drawn, unlessDrawn}
-use Rattle.market.specs.Orders.{blankOrder, isMarket, eventOf, orderTests}
+use Rattle.market.specs.Orders.{blankOrder, eventOf, orderTests}
 use Rattle.market.specs.Quotes.{noQuote}
 use Rattle.market.specs.Trades.{rowIf}
 use Rattle.market.specs.declared.order.OrderType.the-variants.{MarketSell}
 use Rattle.market.specs.declared.order.Order.{Order}
 use Rattle.market.specs.declared.quote.Quote.{Quote}
 use Rattle.market.specs.declared.table.Table.{Table}
-use Rattle.market.proofs.Faults.{Numbered, order-numbered, append-none, none-drawn}
+use Rattle.market.proofs.Faults.{order-numbered, append-none, none-drawn, test-holds}
 use Rattle.exchange.specs.State.{roomOf}
 use Rattle.exchange.specs.Insert.{takenOne, joined}
 use Rattle.exchange.specs.declared.state.Booked.{Booked}
 use Rattle.exchange.specs.declared.state.Counts.{Counts}
 use Rattle.exchange.specs.declared.state.UistV1.{UistV1}
 use Rattle.exchange.proofs.Counting.{Sound, room-facts, Free}
-use Rattle.rules.specs.Amounts.{isZero}
 use Rattle.rules.specs.Money.{unlessZero}
-use Rattle.rules.specs.Sends.{exceedsCash, exceedsHolding, missing, sendTestsAt}
+use Rattle.rules.specs.Sends.{sendTestsAt}
 use Rattle.portfolio.specs.State.{moneyOf}
 use Rattle.portfolio.specs.Lists.{listed}
-use Rattle.broker.specs.Send.{quoteIn, eventAt, eventFor, pendingAfter, takenBy, sentOne, sentAll, eventsOf, noEvents, SendsFit, sendAllOf}
+use Rattle.broker.specs.Send.{eventFor, takenBy, sentOne, sentAll, eventsOf, noEvents, SendsFit, sendAllOf}
 use Rattle.portfolio.specs.declared.state.Funds.{Funds}
 use Rattle.portfolio.specs.declared.state.Portfolio.{Portfolio}
 use Rattle.broker.specs.declared.state.UistBroker.{UistBroker}
 use Rattle.market.specs.declared.order.OrderEvent.{OrderEvent}
-use Rattle.broker.specs.declared.send.Latest.{Latest}
-use Rattle.broker.specs.declared.send.Latest.the-variants.{At, Unquoted}
-use Rattle.broker.specs.declared.send.AtSymbol.{AtSymbol}
+use Rattle.sender.specs.Sender.{eventAt, pendingAfter}
+use Rattle.sender.specs.declared.AtSymbol.{AtSymbol}
+use Rattle.sender.proofs.Events.{send-numbered}
 use Rattle.portfolio.specs.declared.list.OrderList.{OrderList}
 use Rattle.broker.specs.declared.send.SentAll.{SentAll}
-use Rattle.broker.proofs.Drawing.{drawn-first, drawn-past}
 
 -- what a read past the end of an array of orders gives; no code reads there
 abbrev pub noOrder : Order
 noOrder = record { kind = MarketSell; priced = false; symbol = 0; shares = nan; price = nan }
-
-holds-first : (b : Bool) (n : ℕ) (l : List Test) → b ≡ true → drawn ((b draws n) ∷ l) ≡ n
-unfolding drawn
-holds-first b n l e = rw e
-
-fails-first : (b : Bool) (n : ℕ) (l : List Test) → b ≡ false → drawn ((b draws n) ∷ l) ≡ drawn l
-unfolding drawn
-fails-first b n l e = rw e
-
-send-numbered : (failed : Bool) (cash : Float) (quote : Option Quote) (holding : Option Float) (o : Order) → All Numbered (sendTestsAt failed cash quote holding o)
-send-numbered failed cash quote holding o = (tt, (tt, (tt, (tt, (tt, (tt, tt))))))
-
--- ---- an order's event, test by test: n is what the order's own fields drew
-
-module _ (o : Order) (failed : Bool) (cash : Float) (x : AtSymbol) (c : Counts) (n : ℕ) (d : n ≡ drawn (orderTests o)) where
-  abbrev quote : Option Quote
-  quote = rowIf (x .present) (x .quote)
-
-  abbrev holding : Option Float
-  holding = unlessZero (x .holding)
-
-  abbrev later : List Test
-  later = sendTestsAt failed cash quote holding o ++ roomOf c
-
-  event-by : (e : OrderEvent) (m : ℕ) → e ≡ eventOf o m → drawn (orderTests o ++ later) ≡ m → e ≡ eventAt o failed cash x c
-  unfolding eventAt
-  event-by e m a h = a ∙ ap (eventOf o) (sym h)
-
-  pub event-order : (e : OrderEvent) → e ≡ eventOf o n → (n ≡ 0 → ⊥) → e ≡ eventAt o failed cash x c
-  event-order e a h = event-by e n a (sym (drawn-first (orderTests o) later (order-numbered o) n d h))
-
-  past-order : n ≡ 0 → drawn (orderTests o ++ later) ≡ drawn later
-  past-order z = drawn-past (orderTests o) later (order-numbered o) n d z
-
-  pub event-failed : (e : OrderEvent) → e ≡ eventOf o 4 → n ≡ 0 → failed ≡ true → e ≡ eventAt o failed cash x c
-  event-failed e a z f = event-by e 4 a (past-order z ∙ holds-first _ _ _ f)
-
-  -- past 1, 2 and 4, by the latest quote that was read
-  module _ (z : n ≡ 0) (f : failed ≡ false) (l : Latest) (r : quoteIn l ≡ quote) where
-    pub event-unquoted : (e : OrderEvent) → e ≡ eventOf o 5 → l ≡ Unquoted → e ≡ eventAt o failed cash x c
-    event-unquoted e a u = event-by e 5 a (past-order z ∙ fails-first _ _ _ f ∙ holds-first _ _ _ (ap missing (sym r ∙ ap quoteIn u)))
-
-    -- past 5
-    module _ (q : Quote) (t : l ≡ At q) where
-      there : quote ≡ some q
-      there = sym r ∙ ap quoteIn t
-
-      pub event-limit : (e : OrderEvent) → e ≡ eventOf o 6 → isMarket (o .kind) ≡ false → e ≡ eventAt o failed cash x c
-      event-limit e a m = event-by e 6 a (past-order z ∙ fails-first _ _ _ f ∙ fails-first _ _ _ (ap missing there) ∙ holds-first _ _ _ (ap not m))
-
-      -- past 6
-      module _ (m : isMarket (o .kind) ≡ true) where
-        past-limit : drawn (orderTests o ++ later) ≡ drawn ((exceedsCash cash o quote draws 7) ∷ (exceedsHolding o holding draws 8) ∷ (isZero (o .shares) draws 9) ∷ roomOf c)
-        past-limit = past-order z ∙ fails-first _ _ _ f ∙ fails-first _ _ _ (ap missing there) ∙ fails-first _ _ _ (ap not m)
-
-        poor-by : (b : Bool) → exceedsCash cash o (some q) ≡ b → exceedsCash cash o quote ≡ b
-        poor-by b h = ap (exceedsCash cash o) there ∙ h
-
-        pub event-cash : (e : OrderEvent) → e ≡ eventOf o 7 → exceedsCash cash o (some q) ≡ true → e ≡ eventAt o failed cash x c
-        event-cash e a h = event-by e 7 a (past-limit ∙ holds-first _ _ _ (poor-by true h))
-
-        pub event-holding : (e : OrderEvent) → e ≡ eventOf o 8 → exceedsCash cash o (some q) ≡ false → exceedsHolding o holding ≡ true → e ≡ eventAt o failed cash x c
-        event-holding e a h s = event-by e 8 a (past-limit ∙ fails-first _ _ _ (poor-by false h) ∙ holds-first _ _ _ s)
-
-        pub event-zero : (e : OrderEvent) → e ≡ eventOf o 9 → exceedsCash cash o (some q) ≡ false → exceedsHolding o holding ≡ false → isZero (o .shares) ≡ true → e ≡ eventAt o failed cash x c
-        event-zero e a h s k = event-by e 9 a (past-limit ∙ fails-first _ _ _ (poor-by false h) ∙ fails-first _ _ _ s ∙ holds-first _ _ _ k)
-
-        pub event-room : (e : OrderEvent) (j : ℕ) → e ≡ eventOf o j → exceedsCash cash o (some q) ≡ false → exceedsHolding o holding ≡ false → isZero (o .shares) ≡ false → j ≡ drawn (roomOf c) →
-            e ≡ eventAt o failed cash x c
-        event-room e j a h s k y =
-            event-by e j a (past-limit ∙ fails-first _ _ _ (poor-by false h) ∙ fails-first _ _ _ s ∙ fails-first _ _ _ k ∙ sym y)
 
 -- ---- the event by the broker's view
 
@@ -134,7 +61,7 @@ module _ (b : UistBroker) (o : Order) where
 
   -- a symbol above 255 draws 1, whatever else is read
   draws-1 : (l : List Test) → ltb (o .symbol) 256 ≡ false → drawn ((ltb 255 (o .symbol) draws 1) ∷ l) ≡ 1
-  draws-1 l h = let g = ltb-false (o .symbol) 256 h in holds-first _ _ l (lt-ltb 255 (o .symbol) (omega arith))
+  draws-1 l h = let g = ltb-false (o .symbol) 256 h in test-holds _ _ l (lt-ltb 255 (o .symbol) (omega arith))
 
   same-by : (t : Bool) → ltb (o .symbol) 256 ≡ t →
       let x = atSymbol (b .portfolio) (o .symbol % 256) in

@@ -9,7 +9,7 @@ use lib.Ieee.{Float}
 use lib.ListN.{length, length-take}
 use Rattle.lists.specs.Lists.{over, given}
 use Rattle.market.specs.Faults.{drawn, unlessDrawn}
-use Rattle.market.proofs.Faults.{first-none}
+use Rattle.market.proofs.Faults.{first-none, unless-some, unless-none}
 use Rattle.market.specs.Orders.{zero64}
 use Rattle.market.specs.Quotes.{rowAt}
 use Rattle.market.specs.declared.order.Order.{Order}
@@ -37,7 +37,7 @@ use Rattle.market.specs.declared.weight.Weights.{Weights}
 use Rattle.portfolio.specs.declared.weigh.Plan.{Plan}
 use Rattle.broker.specs.declared.update.Lengths.{Lengths}
 use Rattle.broker.specs.declared.update.Updated.{Updated}
-use Rattle.broker.proofs.Drawing.{unless-some, unless-none, none-first}
+use Rattle.broker.proofs.Drawing.{none-first}
 use Rattle.broker.proofs.Sending.{sent-all-fits}
 use Rattle.broker.proofs.Settling.{number-none, ticked-fits}
 
@@ -101,14 +101,14 @@ module _ (b : UistBroker) (t f : Table) (w : Weights) (x : Lengths) where
       subst (Updates b t f w x drew) (sym p)
       (record {
         before = refl;
-        fault = e ∙ sym (unless-some drew _ drew h);
-        broker = sym (unless-some drew _ b h);
+        fault = e ∙ unless-some drew _ drew h;
+        broker = unless-some drew _ b h;
         trades = refl;
-        count = sym (unless-some drew _ 0 h);
-        first = sym (unless-some drew _ 0 h);
-        events = sym (unless-some drew _ noEvents h);
-        sent = sym (unless-some drew _ 0 h);
-        total = sym (unless-some drew _ zero64 h);
+        count = unless-some drew _ 0 h;
+        first = unless-some drew _ 0 h;
+        events = unless-some drew _ noEvents h;
+        sent = unless-some drew _ 0 h;
+        total = unless-some drew _ zero64 h;
       })
 
   module _ (k : drew ≡ 0) (y : Checked) (v : Checks b t f (x .log) y) where
@@ -116,14 +116,14 @@ module _ (b : UistBroker) (t f : Table) (w : Weights) (x : Lengths) where
     no-number = v .fault ∙ update-none b x (t .fault) (f .fault) (w .fault) k
 
     checked : y .broker ≡ checkedBy b t f
-    checked = v .broker ∙ unless-none (y .fault) (checkedBy b t f) b no-number
+    checked = v .broker ∙ sym (unless-none (y .fault) (checkedBy b t f) b no-number)
 
     pub fits : SendsFit (y .broker .exchange .counts)
     fits = subst (λ (z : UistBroker). SendsFit (z .exchange .counts)) (sym checked) (checked-fits b t f (x .log) (sym (v .fault) ∙ no-number))
 
     -- a number of the check is answered as it stands
     answered : (n m : ℕ) → n ≡ unlessDrawn (y .fault) m 0 → n ≡ unlessDrawn drew m 0
-    answered n m e = e ∙ unless-none (y .fault) m 0 no-number ∙ sym (unless-none drew m 0 k)
+    answered n m e = e ∙ sym (unless-none (y .fault) m 0 no-number) ∙ unless-none drew m 0 k
 
     -- what an update answers past its refusals
     abbrev acted : SentAll → ℕ → Float → ℕ → Updated
@@ -144,13 +144,13 @@ module _ (b : UistBroker) (t f : Table) (w : Weights) (x : Lengths) where
           let sent : s ≡ sendAllOf after (plan .orders) = a ∙ ap₂ sendAllOf checked orders in
           record {
             before = refl;
-            fault = number ∙ sym (unless-none drew (plan .fault) drew k);
-            broker = ap (λ (u : SentAll). u .broker) sent ∙ sym (unless-none drew (sentAll after (plan .orders)) b k);
+            fault = number ∙ unless-none drew (plan .fault) drew k;
+            broker = ap (λ (u : SentAll). u .broker) sent ∙ unless-none drew (sentAll after (plan .orders)) b k;
             trades = v .trades;
             count = answered (y .count) _ (v .count);
             first = answered (y .first) _ (v .first);
-            events = ap (λ (u : SentAll). u .events) sent ∙ sym (unless-none drew (over (eventsOf after (plan .orders)) noEvents) noEvents k);
-            sent = d ∙ ap length orders ∙ sym (unless-none drew (length (plan .orders)) 0 k);
+            events = ap (λ (u : SentAll). u .events) sent ∙ unless-none drew (over (eventsOf after (plan .orders)) noEvents) noEvents k;
+            sent = d ∙ ap length orders ∙ unless-none drew (length (plan .orders)) 0 k;
             total = o ∙ ap₂ (λ (n : ℕ) (z : UistBroker). unlessDrawn n (totalValue (moneyOf (z .portfolio))) zero64) number checked
-                ∙ sym (unless-none drew (unlessDrawn (plan .fault) (totalValue (moneyOf (after .portfolio))) zero64) zero64 k);
+                ∙ unless-none drew (unlessDrawn (plan .fault) (totalValue (moneyOf (after .portfolio))) zero64) zero64 k;
           }

@@ -17,7 +17,7 @@ use Rattle.lists.specs.Lists.{given}
 use Rattle.rules.specs.Values.{valueOf, saleBudget, totalValue, liquidationValue}
 use Rattle.portfolio.specs.State.{moneyOf, amountIn}
 use Rattle.broker.specs.Lender.{broken}
-use Rattle.broker.specs.Send.{quoteIn}
+use Rattle.sender.specs.Sender.{quoteIn}
 use Rattle.broker.specs.declared.state.UistBroker.{UistBroker}
 use Rattle.broker.specs.declared.read.BrokerState.{BrokerState}
 use Rattle.broker.specs.declared.read.BrokerState.the-variants.{Ready, Failed}

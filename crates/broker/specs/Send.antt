@@ -1,53 +1,33 @@
 -- Sends, direct insertions and deletions on the program's state. Definitions only.
 use Prim.Native.Nat.{ℕ, _+_, _≤_, _%_}
 use mathlib.Core.Bool.{Bool, true, false, cond}
-use mathlib.Core.List.{List, [], _∷_, _++_, foldl}
-use mathlib.Core.Option.{Option, none, some}
+use mathlib.Core.List.{List, [], _∷_, foldl}
 use lib.Ieee.{Float, nan}
 use lib.ListN.{getD, set, replicate}
-use Rattle.lists.specs.Lists.{over, given}
+use Rattle.lists.specs.Lists.{over}
 use Rattle.market.specs.Faults.{drawn, unlessDrawn}
-use Rattle.market.specs.Orders.{blankOrder, eventOf, orderTests}
-use Rattle.market.specs.Trades.{rowIf}
+use Rattle.market.specs.Orders.{blankOrder, eventOf}
 use Rattle.market.specs.declared.order.Order.{Order}
-use Rattle.market.specs.declared.quote.Quote.{Quote}
 use Rattle.exchange.specs.State.{roomOf}
 use Rattle.exchange.specs.Insert as Exchange
 use Rattle.exchange.specs.Insert.{joined}
 use Rattle.exchange.specs.Delete as Deletion
 use Rattle.exchange.specs.declared.state.Counts.{Counts}
-use Rattle.rules.specs.Amounts.{plus}
-use Rattle.rules.specs.Money.{unlessZero, effect}
-use Rattle.rules.specs.Sends.{sendTestsAt, sendTests}
-use Rattle.portfolio.specs.State.{pendingIf, moneyOf}
+use Rattle.rules.specs.Sends.{sendTests}
+use Rattle.portfolio.specs.State.{moneyOf}
 use Rattle.portfolio.specs.declared.state.Funds.{Funds}
 use Rattle.portfolio.specs.declared.state.Portfolio.{Portfolio}
+use Rattle.sender.specs.Sender.{pendingAfter}
 use Rattle.broker.specs.Lender.{broken}
 use Rattle.broker.specs.declared.state.UistBroker.{UistBroker}
 use Rattle.market.specs.declared.order.OrderEvent.{OrderEvent}
 use Rattle.broker.specs.declared.send.Sent.{Sent}
 use Rattle.broker.specs.declared.send.BrokerDeleted.{BrokerDeleted}
-use Rattle.broker.specs.declared.send.Latest.{Latest}
-use Rattle.broker.specs.declared.send.Latest.the-variants.{At, Unquoted}
-use Rattle.broker.specs.declared.send.AtSymbol.{AtSymbol}
 use Rattle.broker.specs.declared.send.SentAll.{SentAll}
-
--- what a `Latest` says
-abbrev pub quoteIn : Latest → Option Quote
-quoteIn (At q) = some q
-quoteIn Unquoted = none
-
--- an order's event by what its tests read
-unfoldable pub eventAt : Order → Bool → Float → AtSymbol → Counts → OrderEvent
-eventAt o failed cash x c = eventOf o (drawn (orderTests o ++ sendTestsAt failed cash (rowIf (x .present) (x .quote)) (unlessZero (x .holding)) o ++ roomOf c))
 
 -- an order's event: 1, 2, 4 to 9 by the rules on what the broker holds, 10 and 11 by the exchange's counts
 unfoldable pub eventFor : UistBroker → Order → OrderEvent
 eventFor b o = eventOf o (drawn (sendTests (moneyOf (b .portfolio)) (roomOf (b .exchange .counts)) o))
-
--- a symbol's pending quantity with an order's effect
-unfoldable pub pendingAfter : Order → Bool → Float → Float
-pendingAfter o awaited pending = given (pendingIf awaited pending) (effect o) (λ p. plus p (effect o))
 
 -- pending moves at the order's symbol
 abbrev pub expecting : Funds → Order → Funds

@@ -3,11 +3,11 @@
 ghost use mathlib.Core.Path.{_≡_};
 ghost use Rattle.broker.specs.Lender.{brokerFault};
 ghost use Rattle.broker.specs.Read.{symbolFault, amountsFault, ReadsQuote, ReadsAmount, ReadsState, readFloat, readCount, readImpact, quoteOf, holdingOf, pendingOf, valueHere, valueSold, totalOf, liquidationOf, cashHere, impactOf, costsHere};
-use crate::send::Latest;
 use crate::state::UistBroker;
 use costs::Impact;
 use portfolio::value;
 use portfolio::value::Amount;
+use sender::Latest;
 
 pub enum BrokerState {
     Ready,

@@ -16,7 +16,8 @@ use Rattle.market.specs.declared.trade.Trade.{Trade}
 use Rattle.rules.specs.Amounts.{plus, isZero}
 use Rattle.rules.specs.Money.{Money, put, orZero, unlessZero, adding, taking, paid, settled, effect, expected}
 use Rattle.portfolio.specs.State.{heldAt, pendingIf, pendingAt, moneyOf}
-use Rattle.broker.specs.Send.{pendingAfter, expecting}
+use Rattle.sender.specs.Sender.{pendingAfter}
+use Rattle.broker.specs.Send.{expecting}
 use Rattle.portfolio.specs.Booking.{settleOf, settledAt, putSettled, settleOne}
 use Rattle.portfolio.specs.declared.state.Funds.{Funds}
 use Rattle.portfolio.specs.declared.state.Portfolio.{Portfolio}

@@ -60,10 +60,10 @@ none-drawn true n l e = absurd (omega arith)
 none-drawn false n l e = (refl, e)
 
 -- a first test that holds, and one that does not
-pub test-holds : (b : Bool) (n : ℕ) (l : List Test) → b ≡ true → n ≡ drawn ((b draws n) ∷ l)
+pub test-holds : (b : Bool) (n : ℕ) (l : List Test) → b ≡ true → drawn ((b draws n) ∷ l) ≡ n
 unfolding drawn
 test-holds b n l e = rw e
 
-pub test-fails : (b : Bool) (n : ℕ) (l : List Test) → b ≡ false → drawn l ≡ drawn ((b draws n) ∷ l)
+pub test-fails : (b : Bool) (n : ℕ) (l : List Test) → b ≡ false → drawn ((b draws n) ∷ l) ≡ drawn l
 unfolding drawn
 test-fails b n l e = rw e

@@ -4,9 +4,9 @@ use broker::read::AmountRead;
 use broker::read::BrokerState;
 use broker::read::FloatRead;
 use broker::read::QuoteRead;
-use broker::send::Latest;
 use market::order::OrderEvent;
 use portfolio::value::Amount;
+use sender::Latest;
 use text::out;
 use text::out::Head;
 

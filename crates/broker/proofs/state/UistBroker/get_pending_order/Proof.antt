@@ -10,7 +10,8 @@ use borrow.Author.Needs.{needs}
 use borrow.Author.Tests.{lt-ltb}
 use Rattle.portfolio.specs.State.{pendingAt}
 use Rattle.broker.specs.Read.{symbolFault}
-use Rattle.broker.proofs.Drawing.{unless-some, unless-none, symbol-within}
+use Rattle.market.proofs.Faults.{unless-some, unless-none}
+use Rattle.broker.proofs.Drawing.{symbol-within}
 use Rattle.broker.proofs.state.UistBroker.get_pending_order.Statement.{statement}
 use Rattle.broker.proofs.state.UistBroker.get_pending_order.Tie as tie
 
@@ -27,7 +28,7 @@ symbol-fault-requires c κs = search needs
 returns : tie.Need-returns
 returns c =
     let e = c .before .symbol-fault .ensures in
-    record { amount = sym (unless-some _ _ _ (λ z. c .if1 .taken (e ∙ z))); fault = e }
+    record { amount = unless-some _ _ _ (λ z. c .if1 .taken (e ∙ z)); fault = e }
 
 drew-none : (c : tie.Else1) →
     let args = c .before .before .before .before .args in
@@ -51,13 +52,13 @@ returns-2 c =
     let if2 = c .before in
     let else = if2 .before .before in
     let p = else .before .before .before .before .args .self .portfolio in
-    record { amount = pending-there (p .funds .awaited) (p .funds .pending) _ (within else) (if2 .if2 .taken) ∙ sym (unless-none _ _ none (drew-none else)); fault = sym (drew-none else) }
+    record { amount = pending-there (p .funds .awaited) (p .funds .pending) _ (within else) (if2 .if2 .taken) ∙ unless-none _ _ none (drew-none else); fault = sym (drew-none else) }
 
 returns-3 : tie.Need-returns-3
 returns-3 c =
     let else = c .before .before in
     let p = else .before .before .before .before .args .self .portfolio in
-    record { amount = nothing-there (p .funds .awaited) (p .funds .pending) _ (within else) (c .if2 .left) ∙ sym (unless-none _ _ none (drew-none else)); fault = sym (drew-none else) }
+    record { amount = nothing-there (p .funds .awaited) (p .funds .pending) _ (within else) (c .if2 .left) ∙ unless-none _ _ none (drew-none else); fault = sym (drew-none else) }
 
 pub get-pending-order-spec : {M : Type 1} → statement M
 get-pending-order-spec =

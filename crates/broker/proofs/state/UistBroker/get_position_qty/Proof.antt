@@ -11,7 +11,8 @@ use borrow.Author.Tests.{lt-ltb}
 use Rattle.rules.specs.Amounts.{isZero}
 use Rattle.portfolio.specs.State.{heldAt}
 use Rattle.broker.specs.Read.{symbolFault}
-use Rattle.broker.proofs.Drawing.{unless-some, unless-none, symbol-within}
+use Rattle.market.proofs.Faults.{unless-some, unless-none}
+use Rattle.broker.proofs.Drawing.{symbol-within}
 use Rattle.broker.proofs.state.UistBroker.get_position_qty.Statement.{statement}
 use Rattle.broker.proofs.state.UistBroker.get_position_qty.Tie as tie
 
@@ -28,7 +29,7 @@ symbol-fault-requires c κs = search needs
 returns : tie.Need-returns
 returns c =
     let e = c .before .symbol-fault .ensures in
-    record { amount = sym (unless-some _ _ _ (λ z. c .if1 .taken (e ∙ z))); fault = e }
+    record { amount = unless-some _ _ _ (λ z. c .if1 .taken (e ∙ z)); fault = e }
 
 drew-none : (c : tie.Else1) →
     let args = c .before .before .before .before .args in
@@ -48,13 +49,13 @@ returns-2 : tie.Need-returns-2
 returns-2 c =
     let else = c .before .before in
     let p = else .before .before .before .before .args .self .portfolio in
-    record { amount = not-held (p .funds .holding) _ (within else) (c .if2 .taken) ∙ sym (unless-none _ _ none (drew-none else)); fault = sym (drew-none else) }
+    record { amount = not-held (p .funds .holding) _ (within else) (c .if2 .taken) ∙ unless-none _ _ none (drew-none else); fault = sym (drew-none else) }
 
 returns-3 : tie.Need-returns-3
 returns-3 c =
     let else = c .before .before in
     let p = else .before .before .before .before .args .self .portfolio in
-    record { amount = held (p .funds .holding) _ (within else) (c .if2 .left) ∙ sym (unless-none _ _ none (drew-none else)); fault = sym (drew-none else) }
+    record { amount = held (p .funds .holding) _ (within else) (c .if2 .left) ∙ unless-none _ _ none (drew-none else); fault = sym (drew-none else) }
 
 pub get-position-qty-spec : {M : Type 1} → statement M
 get-position-qty-spec =

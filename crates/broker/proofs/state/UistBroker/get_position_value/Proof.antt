@@ -5,7 +5,8 @@ use mathlib.Core.Path.{_≡_, sym, _∙_}
 use borrow.Author.Needs.{needs}
 use Rattle.broker.specs.Read.{symbolFault}
 use Rattle.portfolio.proofs.Symbols.{value-read}
-use Rattle.broker.proofs.Drawing.{unless-some, unless-none, symbol-within}
+use Rattle.market.proofs.Faults.{unless-some, unless-none}
+use Rattle.broker.proofs.Drawing.{symbol-within}
 use Rattle.broker.proofs.state.UistBroker.get_position_value.Statement.{statement}
 use Rattle.broker.proofs.state.UistBroker.get_position_value.Tie as tie
 
@@ -15,7 +16,7 @@ symbol-fault-requires c κs = search needs
 returns : tie.Need-returns
 returns c =
     let e = c .before .symbol-fault .ensures in
-    record { amount = sym (unless-some _ _ _ (λ z. c .if1 .taken (e ∙ z))); fault = e }
+    record { amount = unless-some _ _ _ (λ z. c .if1 .taken (e ∙ z)); fault = e }
 
 drew-none : (c : tie.Else1) →
     let args = c .before .before .before .before .before .args in
@@ -47,7 +48,7 @@ returns-2 : tie.Need-returns-2
 returns-2 c =
     let else = c .before .before .before .before in
     let p = else .before .before .before .before .before .args .self .portfolio in
-    record { amount = c .value-at .ensures ∙ sym (value-read (p .latest) (p .funds .holding) _ (within else)) ∙ sym (unless-none _ _ none (drew-none else)); fault = sym (drew-none else) }
+    record { amount = c .value-at .ensures ∙ sym (value-read (p .latest) (p .funds .holding) _ (within else)) ∙ unless-none _ _ none (drew-none else); fault = sym (drew-none else) }
 
 pub get-position-value-spec : {M : Type 1} → statement M
 get-position-value-spec =

@@ -12,7 +12,8 @@ use Rattle.market.specs.declared.order.Order.{Order}
 use Rattle.exchange.proofs.Counting.{sound-facts, Free, join-place, join-book, join-counts}
 use Rattle.broker.specs.Lender.{broken, brokerFault}
 use Rattle.broker.proofs.Drawing.{drew, passed}
-use Rattle.broker.specs.Send.{eventAt, sentOne, sendOf}
+use Rattle.sender.specs.Sender.{eventAt}
+use Rattle.broker.specs.Send.{sentOne, sendOf}
 use Rattle.portfolio.specs.declared.state.Portfolio.{Portfolio}
 use Rattle.broker.specs.declared.state.UistBroker.{UistBroker}
 use Rattle.market.specs.declared.order.OrderEvent.{OrderEvent}

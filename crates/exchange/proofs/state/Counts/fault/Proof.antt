@@ -12,11 +12,11 @@ use Rattle.exchange.proofs.state.Counts.fault.Tie as tie
 
 module _ (c : Counts) (b : Bool) (e : b ≡ brokenOf c) where
   held : b ≡ true → 16 ≡ brokenFault c
-  held h = test-holds (brokenOf c) 16 [] (sym e ∙ h)
+  held h = sym (test-holds (brokenOf c) 16 [] (sym e ∙ h))
 
   passed : b ≡ false → 0 ≡ brokenFault c
   unfolding drawn
-  passed h = test-fails (brokenOf c) 16 [] (sym e ∙ h)
+  passed h = sym (test-fails (brokenOf c) 16 [] (sym e ∙ h))
 
 broken-requires : tie.Need-broken-requires
 broken-requires c κs = search needs

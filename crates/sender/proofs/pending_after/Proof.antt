@@ -1,9 +1,9 @@
 -- `pending_after` meets its contract: each return is the order's side, and whether a quantity is pending. Assumes nothing.
 use mathlib.Core.Path.{sym, _∙_}
 use borrow.Author.Needs.{needs}
-use Rattle.broker.specs.Send.{pendingAfter}
-use Rattle.broker.proofs.send.pending_after.Statement.{statement}
-use Rattle.broker.proofs.send.pending_after.Tie as tie
+use Rattle.sender.specs.Sender.{pendingAfter}
+use Rattle.sender.proofs.pending_after.Statement.{statement}
+use Rattle.sender.proofs.pending_after.Tie as tie
 
 is-sell-requires : tie.Need-is-sell-requires
 is-sell-requires c κs = search needs

@@ -1,7 +1,7 @@
 -- `latest_of` meets its contract: each return is the row that `present` gives. Assumes nothing.
 use borrow.Author.Needs.{needs}
-use Rattle.broker.proofs.send.latest_of.Statement.{statement}
-use Rattle.broker.proofs.send.latest_of.Tie as tie
+use Rattle.sender.proofs.latest_of.Statement.{statement}
+use Rattle.sender.proofs.latest_of.Tie as tie
 
 returns : tie.Need-returns
 returns c = simp (c .before .if1 .taken)

@@ -4,9 +4,9 @@ use mathlib.Core.Bool.{true}
 use borrow.Author.Needs.{needs}
 use borrow.Author.Tests.{not-true, not-false}
 use Rattle.market.specs.Orders.{isMarket}
-use Rattle.broker.proofs.Sending.{event-order, event-failed, event-unquoted, event-limit, event-cash, event-holding, event-zero, event-room}
-use Rattle.broker.proofs.send.send_event.Statement.{statement}
-use Rattle.broker.proofs.send.send_event.Tie as tie
+use Rattle.sender.proofs.Events.{event-order, event-failed, event-unquoted, event-limit, event-cash, event-holding, event-zero, event-room}
+use Rattle.sender.proofs.send_event.Statement.{statement}
+use Rattle.sender.proofs.send_event.Tie as tie
 
 fault-requires : tie.Need-fault-requires
 fault-requires c κs = search needs

@@ -2,8 +2,8 @@
 use mathlib.Core.Path.{sym, _∙_}
 use borrow.Author.Needs.{needs}
 use borrow.Author.Tests.{not-true, not-false}
-use Rattle.broker.proofs.send.exceeds_holding.Statement.{statement}
-use Rattle.broker.proofs.send.exceeds_holding.Tie as tie
+use Rattle.sender.proofs.exceeds_holding.Statement.{statement}
+use Rattle.sender.proofs.exceeds_holding.Tie as tie
 
 is-sell-requires : tie.Need-is-sell-requires
 is-sell-requires c κs = search needs

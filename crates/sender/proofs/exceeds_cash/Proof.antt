@@ -1,8 +1,8 @@
 -- `exceeds_cash` meets its contract: a sale is never poor, and a buy by the test of cash. Assumes nothing.
 use mathlib.Core.Path.{sym, _∙_}
 use borrow.Author.Needs.{needs}
-use Rattle.broker.proofs.send.exceeds_cash.Statement.{statement}
-use Rattle.broker.proofs.send.exceeds_cash.Tie as tie
+use Rattle.sender.proofs.exceeds_cash.Statement.{statement}
+use Rattle.sender.proofs.exceeds_cash.Tie as tie
 
 is-sell-requires : tie.Need-is-sell-requires
 is-sell-requires c κs = search needs

@@ -2,8 +2,8 @@
 use mathlib.Core.Path.{_∙_}
 use borrow.Author.Needs.{needs}
 use Rattle.market.proofs.Faults.{unless-some, unless-none}
-use Rattle.broker.proofs.send.sound_event.Statement.{statement}
-use Rattle.broker.proofs.send.sound_event.Tie as tie
+use Rattle.sender.proofs.sound_event.Statement.{statement}
+use Rattle.sender.proofs.sound_event.Tie as tie
 
 event-requires : tie.Need-event-requires
 event-requires c κs = search needs
