@@ -3,10 +3,6 @@ use mathlib.Core.Path.{_≡_}
 use prog.Routine.{Env}
 use borrow.Fn.World.{World}
 use Rattle.slices.proofs.Derivation.{Callee, Knows, under}
-use Rattle.arrays.proofs.at_most.Kinds as at-most-Kinds
-use Rattle.arrays.proofs.at_most.Reads as at-most-Reads
-use Rattle.arrays.proofs.at_most.Symbol as at-most-Symbol
-use Rattle.arrays.proofs.at_most.Met as at-most-Met
 use Rattle.arrays.proofs.tradable_in.Kinds as tradable-in-Kinds
 use Rattle.arrays.proofs.tradable_in.Reads as tradable-in-Reads
 use Rattle.arrays.proofs.tradable_in.Symbol as tradable-in-Symbol
@@ -79,12 +75,6 @@ use Rattle.arrays.proofs.walked.Kinds as walked-Kinds
 use Rattle.arrays.proofs.walked.Reads as walked-Reads
 use Rattle.arrays.proofs.walked.Symbol as walked-Symbol
 use Rattle.arrays.proofs.walked.Met as walked-Met
-
-abbrev pub at-most : Callee
-at-most = record { n = 0; ps = at-most-Kinds.ps; r = at-most-Kinds.r; Pre = at-most-Reads.Asked; Post = at-most-Reads.Learnt; key = "arrays::at_most" }
-
-pub knows-at-most : (w : World) (γ : Env) → γ "arrays::at_most" ≡ at-most-Symbol.routine → Knows at-most (under w γ)
-knows-at-most w γ e = at-most-Reads.known w γ "arrays::at_most" at-most-Symbol.routine e (at-most-Met.met (w .𝓤) (w .H) (w .𝓜) (w .𝓖) (w .𝓡))
 
 abbrev pub tradable-in : Callee
 tradable-in = record { n = 0; ps = tradable-in-Kinds.ps; r = tradable-in-Kinds.r; Pre = tradable-in-Reads.Asked; Post = tradable-in-Reads.Learnt; key = "arrays::tradable_in" }

@@ -9,7 +9,7 @@ use arrays::read::HoldingsRead;
 use broker::state::UistBroker;
 use calls::call::Call;
 use calls::verb::Verb;
-use report::lists;
+use report::list_answers;
 use text::input;
 use text::input::Input;
 use text::out::Head;
@@ -29,7 +29,7 @@ pub(crate) fn send_list_call(b: UistBroker, x: Input, c: Call) -> Done {
     let micros = clock::since(from);
     let a = s.answer;
     let events = s.events;
-    lists::events(input::head_in(x, c), a.fault, events, orders.count);
+    list_answers::events(input::head_in(x, c), a.fault, events, orders.count);
     let broker = a.broker;
     Done {
         broker: broker,
@@ -44,7 +44,7 @@ pub(crate) fn walk_call(b: UistBroker, x: Input, c: Call) -> Done {
     let micros = clock::since(from);
     let a = s.answer;
     let orders = s.orders;
-    lists::orders(input::head_in(x, c), a.fault, orders, a.count);
+    list_answers::orders(input::head_in(x, c), a.fault, orders, a.count);
     Done {
         broker: b,
         micros: micros,
@@ -55,27 +55,27 @@ fn positions(b: UistBroker, room: usize, head: Head) {
     let x = read::positions_on(b, room);
     let a = x.answer;
     let rows = x.rows;
-    lists::positions(head, a.fault, rows, a.count);
+    list_answers::positions(head, a.fault, rows, a.count);
 }
 
 fn holdings(x: HoldingsRead, head: Head) {
     let a = x.answer;
     let rows = x.rows;
-    lists::holdings(head, a.fault, rows, a.count);
+    list_answers::holdings(head, a.fault, rows, a.count);
 }
 
 fn quotes(b: UistBroker, room: usize, head: Head) {
     let x = read::quotes_on(b, room);
     let a = x.answer;
     let rows = x.rows;
-    lists::quotes(head, a.fault, rows, a.count);
+    list_answers::quotes(head, a.fault, rows, a.count);
 }
 
 fn trade_costs(b: UistBroker, room: usize, head: Head) {
     let x = read::costs_on(b, room);
     let a = x.answer;
     let rows = x.rows;
-    lists::costs(head, a.fault, rows, a.count);
+    list_answers::costs(head, a.fault, rows, a.count);
 }
 
 // Makes the read that the verb names, on a list of `room` rows, and answers it.

@@ -15,7 +15,7 @@ use calls::verb::Verb;
 use lent::uist;
 use market::trade::Trade;
 use report::answer;
-use report::lists;
+use report::list_answers;
 use text::input;
 use text::input::Input;
 
@@ -76,7 +76,7 @@ pub(crate) fn check_done(y: CheckedList, x: Input, c: Call) -> Done {
 pub(crate) fn update_done(u: UpdatedList, x: Input, c: Call) -> Done {
     let a = u.answer;
     let events = u.events;
-    lists::updated(input::head_in(x, c), a.fault, a.total, events, a.sent);
+    list_answers::updated(input::head_in(x, c), a.fault, a.total, events, a.sent);
     let broker = a.broker;
     Done {
         broker: broker,

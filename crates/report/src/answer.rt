@@ -1,4 +1,4 @@
-// The answers of calls, written a line each; those that are lists are in lists.rt.
+// The answers of calls, written a line each; those that are lists are in list_answers.rt.
 use account::BrokerCashEvent;
 use broker::read::AmountRead;
 use broker::read::BrokerState;

@@ -1,4 +1,4 @@
 // What a run writes: the answers of calls, and what a broker holds. docs/SCENARIOS.md has the forms.
 pub mod answer;
-pub mod lists;
+pub mod list_answers;
 pub mod state;

@@ -1,8 +1,8 @@
--- `lists::put_costs` is safe and ends. Assumes nothing.
+-- `list_answers::put_events` is safe and ends. Assumes nothing.
 use Prim.Native.Nat.{_-_}
 use borrow.Author.Needs.{needs}
-use Rattle.report.proofs.lists.put_costs.Statement.{statement}
-use Rattle.report.proofs.lists.put_costs.Tie as tie
+use Rattle.report.proofs.list_answers.put_events.Statement.{statement}
+use Rattle.report.proofs.list_answers.put_events.Tie as tie
 
 abbrev Inv-loop : tie.InvT-loop
 Inv-loop t₀ at count rows n₀ i₀ t n i = Unit
@@ -16,14 +16,14 @@ put-whole-word-requires c κs = search needs
 loop-holds : tie.Need-loop-holds Inv-loop μ-loop
 loop-holds c = search needs
 
-mul-c : tie.Need-mul-c Inv-loop μ-loop
-mul-c c = search needs
+mul-e : tie.Need-mul-e Inv-loop μ-loop
+mul-e c = search needs
 
-array-copy-out-c : tie.Need-array-copy-out-c Inv-loop μ-loop
-array-copy-out-c c = search needs
+array-copy-out-e : tie.Need-array-copy-out-e Inv-loop μ-loop
+array-copy-out-e c = search needs
 
-put-cost-requires : tie.Need-put-cost-requires Inv-loop μ-loop
-put-cost-requires c κs = search needs
+put-event-requires : tie.Need-put-event-requires Inv-loop μ-loop
+put-event-requires c κs = search needs
 
 add-i : tie.Need-add-i Inv-loop μ-loop
 add-i c = search needs
@@ -40,17 +40,17 @@ returns c = search needs
 returns-2 : tie.Need-returns-2 Inv-loop μ-loop
 returns-2 c = search needs
 
-pub put-costs-spec : {M : Type 1} → statement M
-put-costs-spec =
+pub put-events-spec : {M : Type 1} → statement M
+put-events-spec =
     tie.close
     (tie.spec
     Inv-loop
     μ-loop
     put-whole-word-requires
     loop-holds
-    mul-c
-    array-copy-out-c
-    put-cost-requires
+    mul-e
+    array-copy-out-e
+    put-event-requires
     add-i
     loop-less
     loop-again

@@ -1,8 +1,8 @@
--- `lists::put_quotes` is safe and ends. Assumes nothing.
+-- `list_answers::put_costs` is safe and ends. Assumes nothing.
 use Prim.Native.Nat.{_-_}
 use borrow.Author.Needs.{needs}
-use Rattle.report.proofs.lists.put_quotes.Statement.{statement}
-use Rattle.report.proofs.lists.put_quotes.Tie as tie
+use Rattle.report.proofs.list_answers.put_costs.Statement.{statement}
+use Rattle.report.proofs.list_answers.put_costs.Tie as tie
 
 abbrev Inv-loop : tie.InvT-loop
 Inv-loop t₀ at count rows n₀ i₀ t n i = Unit
@@ -16,14 +16,14 @@ put-whole-word-requires c κs = search needs
 loop-holds : tie.Need-loop-holds Inv-loop μ-loop
 loop-holds c = search needs
 
-mul-q : tie.Need-mul-q Inv-loop μ-loop
-mul-q c = search needs
+mul-c : tie.Need-mul-c Inv-loop μ-loop
+mul-c c = search needs
 
-array-copy-out-q : tie.Need-array-copy-out-q Inv-loop μ-loop
-array-copy-out-q c = search needs
+array-copy-out-c : tie.Need-array-copy-out-c Inv-loop μ-loop
+array-copy-out-c c = search needs
 
-put-quote-word-requires : tie.Need-put-quote-word-requires Inv-loop μ-loop
-put-quote-word-requires c κs = search needs
+put-cost-requires : tie.Need-put-cost-requires Inv-loop μ-loop
+put-cost-requires c κs = search needs
 
 add-i : tie.Need-add-i Inv-loop μ-loop
 add-i c = search needs
@@ -40,17 +40,17 @@ returns c = search needs
 returns-2 : tie.Need-returns-2 Inv-loop μ-loop
 returns-2 c = search needs
 
-pub put-quotes-spec : {M : Type 1} → statement M
-put-quotes-spec =
+pub put-costs-spec : {M : Type 1} → statement M
+put-costs-spec =
     tie.close
     (tie.spec
     Inv-loop
     μ-loop
     put-whole-word-requires
     loop-holds
-    mul-q
-    array-copy-out-q
-    put-quote-word-requires
+    mul-c
+    array-copy-out-c
+    put-cost-requires
     add-i
     loop-less
     loop-again

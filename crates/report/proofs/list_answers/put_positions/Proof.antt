@@ -1,8 +1,8 @@
--- `lists::put_holdings` is safe and ends. Assumes nothing.
+-- `list_answers::put_positions` is safe and ends. Assumes nothing.
 use Prim.Native.Nat.{_-_}
 use borrow.Author.Needs.{needs}
-use Rattle.report.proofs.lists.put_holdings.Statement.{statement}
-use Rattle.report.proofs.lists.put_holdings.Tie as tie
+use Rattle.report.proofs.list_answers.put_positions.Statement.{statement}
+use Rattle.report.proofs.list_answers.put_positions.Tie as tie
 
 abbrev Inv-loop : tie.InvT-loop
 Inv-loop t₀ at count rows n₀ i₀ t n i = Unit
@@ -16,17 +16,17 @@ put-whole-word-requires c κs = search needs
 loop-holds : tie.Need-loop-holds Inv-loop μ-loop
 loop-holds c = search needs
 
-mul-h : tie.Need-mul-h Inv-loop μ-loop
-mul-h c = search needs
+mul-put-whole-word : tie.Need-mul-put-whole-word Inv-loop μ-loop
+mul-put-whole-word c = search needs
 
-array-copy-out-h : tie.Need-array-copy-out-h Inv-loop μ-loop
-array-copy-out-h c = search needs
+array-read-put-whole-word : tie.Need-array-read-put-whole-word Inv-loop μ-loop
+array-read-put-whole-word c = search needs
 
-cast-put-entry : tie.Need-cast-put-entry Inv-loop μ-loop
-cast-put-entry c = search needs
+cast-put-whole-word : tie.Need-cast-put-whole-word Inv-loop μ-loop
+cast-put-whole-word c = search needs
 
-put-entry-requires : tie.Need-put-entry-requires Inv-loop μ-loop
-put-entry-requires c κs = search needs
+put-whole-word-requires-2 : tie.Need-put-whole-word-requires-2 Inv-loop μ-loop
+put-whole-word-requires-2 c κs = search needs
 
 add-i : tie.Need-add-i Inv-loop μ-loop
 add-i c = search needs
@@ -43,18 +43,18 @@ returns c = search needs
 returns-2 : tie.Need-returns-2 Inv-loop μ-loop
 returns-2 c = search needs
 
-pub put-holdings-spec : {M : Type 1} → statement M
-put-holdings-spec =
+pub put-positions-spec : {M : Type 1} → statement M
+put-positions-spec =
     tie.close
     (tie.spec
     Inv-loop
     μ-loop
     put-whole-word-requires
     loop-holds
-    mul-h
-    array-copy-out-h
-    cast-put-entry
-    put-entry-requires
+    mul-put-whole-word
+    array-read-put-whole-word
+    cast-put-whole-word
+    put-whole-word-requires-2
     add-i
     loop-less
     loop-again
