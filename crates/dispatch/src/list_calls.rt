@@ -79,7 +79,7 @@ fn trade_costs(b: UistBroker, room: usize, head: Head) {
 }
 
 // Makes the read that the verb names, on a list of `room` rows, and answers it.
-pub fn read_list_call(b: UistBroker, verb: Verb, room: usize, head: Head) {
+pub(crate) fn read_list_call(b: UistBroker, verb: Verb, room: usize, head: Head) {
     match verb {
         Verb::GetPositions => positions(b, room, head),
         Verb::GetHoldings => holdings(read::holdings_on(b, room), head),

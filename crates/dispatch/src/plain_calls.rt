@@ -18,7 +18,7 @@ pub fn broker_in(d: Done) -> UistBroker {
     d.broker
 }
 
-pub fn unchanged(b: UistBroker) -> Done {
+pub(crate) fn unchanged(b: UistBroker) -> Done {
     Done {
         broker: b,
         micros: 0,
@@ -143,7 +143,7 @@ fn timed(b: UistBroker, from: i64) -> Done {
 }
 
 // A call that needs no lent list.
-pub fn plain_call(b: UistBroker, c: Call, head: Head) -> Done {
+pub(crate) fn plain_call(b: UistBroker, c: Call, head: Head) -> Done {
     let v = c.verb;
     let from = clock::now();
     match v {

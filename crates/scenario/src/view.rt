@@ -30,7 +30,7 @@ pub struct Symbols {
     pub count: usize,
 }
 
-pub fn fresh() -> View {
+pub(crate) fn fresh() -> View {
     View {
         rows: 0,
         quiet: false,
@@ -42,17 +42,17 @@ pub fn fresh() -> View {
 }
 
 // The broker before the first `new`: no log, no quotes.
-pub fn first_broker() -> UistBroker {
+pub(crate) fn first_broker() -> UistBroker {
     let x = UistBroker::build(TradeCosts::none(), ReadTable::empty(), 0);
     x.broker
 }
 
-pub fn rows(v: View) -> usize {
+pub(crate) fn rows(v: View) -> usize {
     v.rows
 }
 
 // The lent log's rows follow `new` and `lend`; a `new` has shown no trade.
-pub fn before(v: View, c: Call) -> View {
+pub(crate) fn before(v: View, c: Call) -> View {
     let verb = c.verb;
     let mut w = v;
     match verb {
@@ -100,7 +100,7 @@ fn clocked(v: View, head: Head) -> View {
 }
 
 // What the run keeps after a call; the lines that make none are answered.
-pub fn after(v: View, d: Done, c: Call, x: Input) -> View {
+pub(crate) fn after(v: View, d: Done, c: Call, x: Input) -> View {
     let verb = c.verb;
     let mut w = v;
     if is_call(verb) {
@@ -132,7 +132,7 @@ pub fn after(v: View, d: Done, c: Call, x: Input) -> View {
 }
 
 // Is what the broker holds not shown after this line?
-pub fn is_hidden(v: View, c: Call) -> bool {
+pub(crate) fn is_hidden(v: View, c: Call) -> bool {
     let verb = c.verb;
     match verb {
         Verb::State => false,
@@ -142,17 +142,17 @@ pub fn is_hidden(v: View, c: Call) -> bool {
     }
 }
 
-pub fn is_broken(b: UistBroker) -> bool {
+pub(crate) fn is_broken(b: UistBroker) -> bool {
     let x = b.get_cash_balance();
     x.fault != 0
 }
 
-pub fn first_row(v: View) -> usize {
+pub(crate) fn first_row(v: View) -> usize {
     v.shown
 }
 
 // The log's rows that hold trades, of `length` rows: none where a number is drawn.
-pub fn last_row(b: UistBroker, turnover: FloatRead, length: usize) -> usize
+pub(crate) fn last_row(b: UistBroker, turnover: FloatRead, length: usize) -> usize
     ensures { λ r. ⌜ r ≤ length ⌝ }
 {
     let x = b.executed_trade_count();
@@ -166,7 +166,7 @@ pub fn last_row(b: UistBroker, turnover: FloatRead, length: usize) -> usize
 }
 
 // A trade is seen: its symbol has traded.
-pub fn seen(v: View, t: Trade) -> View {
+pub(crate) fn seen(v: View, t: Trade) -> View {
     let mut w = v;
     let at = t.symbol as usize;
     if at < 256 {
@@ -175,7 +175,7 @@ pub fn seen(v: View, t: Trade) -> View {
     w
 }
 
-pub fn shown(v: View, last: usize) -> View {
+pub(crate) fn shown(v: View, last: usize) -> View {
     let mut w = v;
     if last > v.shown {
         w.shown = last;
@@ -194,7 +194,7 @@ fn with_symbol(s: Symbols, symbol: u32) -> Symbols {
 }
 
 // The symbols that have traded; none where a number is drawn.
-pub fn traded_symbols(v: View, turnover: FloatRead) -> Symbols {
+pub(crate) fn traded_symbols(v: View, turnover: FloatRead) -> Symbols {
     let mut s = Symbols {
         list: [0; 256],
         count: 0,
@@ -209,10 +209,10 @@ pub fn traded_symbols(v: View, turnover: FloatRead) -> Symbols {
     s
 }
 
-pub fn symbol_count(s: Symbols) -> usize {
+pub(crate) fn symbol_count(s: Symbols) -> usize {
     s.count
 }
 
-pub fn symbol_at(s: Symbols, i: usize) -> u32 {
+pub(crate) fn symbol_at(s: Symbols, i: usize) -> u32 {
     if i < 256 { s.list[i] } else { 0 }
 }

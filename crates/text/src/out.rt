@@ -172,7 +172,7 @@ pub struct Head {
 }
 
 // The head of this number and this word, of at most 64 bytes.
-pub fn head_of(line: u64, word: &[u8]) -> Head {
+pub(crate) fn head_of(line: u64, word: &[u8]) -> Head {
     let mut bytes = [0u8; 64];
     let mut i: usize = 0;
     while i < word.len() {
