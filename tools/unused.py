@@ -11,9 +11,10 @@ import re
 import sys
 
 ROOT = pathlib.Path(__file__).resolve().parent.parent / "crates"
-ANTT_USE = re.compile(r"^([ \t]*)(pub )?use ([^\s{]+?)(?:\.\{([^}]*)\}| as (\S+))?[ \t]*$", re.M)
-GHOST_USE = re.compile(r"^\s*ghost use ([^\s{;]+?)(?:\.\{([^}]*)\}| as ([^\s;]+))?;", re.M)
-RUST_USE = re.compile(r"^\s*(pub(?:\(crate\))? )?use ([\w:]+?)(?:::\{([^}]*)\})?(?: as (\w+))?;", re.M)
+# An import: whether it is for others too, its path, and the names of its list or the one name of the whole.
+ANTT_USE = re.compile(r"^[ \t]*(?P<public>pub )?use (?P<path>[^\s{]+?)(?:\.\{(?P<names>[^}]*)\}| as (?P<whole>\S+))?[ \t]*$", re.M)
+GHOST_USE = re.compile(r"^\s*ghost use (?P<path>[^\s{;]+?)(?:\.\{(?P<names>[^}]*)\}| as (?P<whole>[^\s;]+))?;", re.M)
+RUST_USE = re.compile(r"^\s*(?P<public>pub(?:\(crate\))? )?use (?P<path>[\w:]+?)(?:::\{(?P<names>[^}]*)\})?(?: as (?P<whole>\w+))?;", re.M)
 STRING = re.compile(r'"(?:[^"\\\n]|\\.)*"')
 
 
@@ -58,21 +59,28 @@ def part_used(part, tokens):
     return any(t in tokens for t in (part, "_" + part, part + "_", "_" + part + "_"))
 
 
-def brought(listing, whole):
+def brought(m):
     """The names that an import brings in: those of its list, or the whole module's."""
-    return [whole] if listing is None else listed(listing)
+    if m.group("names") is not None:
+        return listed(m.group("names"))
+    return [m.group("whole") or re.split(r"\.|::", m.group("path"))[-1]]
+
+
+def unused(text, imports, used):
+    """(line, name) of each name that these imports bring in and `used` does not find. What a `pub use` brings in is for others."""
+    for m in imports:
+        if m.groupdict().get("public"):
+            continue
+        for name in brought(m):
+            if not used(name):
+                yield line_of(text, m.start("path")), name
 
 
 def unused_antt(text):
-    """(line, name) of each unused import of an .antt file. What a `pub use` brings in is for others."""
+    """(line, name) of each unused import of an .antt file."""
     code = blanked(blanked(text, STRING), re.compile(r"(?<!\S)--.*"))
     tokens = antt_tokens(blanked(code, ANTT_USE))
-    for m in ANTT_USE.finditer(code):
-        if m.group(2):
-            continue
-        for name in brought(m.group(4), m.group(5) or m.group(3).split(".")[-1]):
-            if not is_used(name, tokens):
-                yield line_of(text, m.start(3)), name
+    return unused(text, ANTT_USE.finditer(code), lambda name: is_used(name, tokens))
 
 
 def rust_used(name, code):
@@ -87,16 +95,8 @@ def unused_rt(text):
     code = blanked(blanked(text, STRING), re.compile(r"//.*"))
     body = blanked(blanked(code, GHOST_USE), RUST_USE)
     tokens = antt_tokens(body)
-    for m in GHOST_USE.finditer(code):
-        for name in brought(m.group(2), m.group(3) or m.group(1).split(".")[-1]):
-            if not is_used(name, tokens):
-                yield line_of(text, m.start(1)), name
-    for m in RUST_USE.finditer(code):
-        if m.group(1):
-            continue
-        for name in brought(m.group(3), m.group(4) or m.group(2).split("::")[-1]):
-            if not rust_used(name, body):
-                yield line_of(text, m.start(2)), name
+    yield from unused(text, GHOST_USE.finditer(code), lambda name: is_used(name, tokens))
+    yield from unused(text, RUST_USE.finditer(code), lambda name: rust_used(name, body))
 
 
 def files(crates):
