@@ -44,6 +44,8 @@ def explain(call, answer, before, expected):
     print(f"           {meanings.answered(name, answer.words)}."
           + (" Nothing changed." if same and unchanged else "")
           + (" The shortfall cannot be raised: the broker is Failed from here on." if became_failed else ""))
+    for line in meanings.event_lines(name, answer.words):
+        print(f"             {line}")
     right = " ".join(answer.words).startswith(begins) and (unchanged or not same)
     if not right:
         print(f"           NOT AS EXPECTED: {begins}{', nothing changed' if same else ''}")

@@ -1,27 +1,9 @@
-"""What document 01's numbers mean, and its calls and answers in plain English."""
+"""The calls of a scenario and their answers in plain English."""
 from answers import money
 from scenario.floats import number
-from scenario.words import read_order, read_quote
+from scenario.meanings import MEANINGS
+from scenario.words import read_order, read_quote, read_weight
 
-# Numbers that a sender, a cash mover, a supplier of tables or a lender draws.
-MEANINGS = {
-    1: "a symbol is above 255",
-    2: "a value is not finite, or a bid or ask is not above zero",
-    3: "a row's symbol is not above that of the row before it",
-    4: "the broker is Failed",
-    5: "the symbol has no latest quote",
-    6: "a limit or stop order cannot be sent through the broker",
-    7: "cash does not exceed the cost at the latest ask",
-    8: "the holding is smaller than the sale",
-    9: "the order has zero shares",
-    10: "as many orders were taken as the log has rows",
-    11: "1,024 orders rest or wait already",
-    12: "the money could not be paid out",
-    13: "the account's liquidation value is zero",
-    14: "there are more than 16 costs",
-    15: "a lent list is too short",
-    16: "the broker and the log that was lent do not belong together, or no broker was built",
-}
 KINDS = {"m": "market", "l": "limit", "s": "stop"}
 
 
@@ -39,21 +21,43 @@ def table(rows):
     return ", ".join(found) or "no quotes"
 
 
+def mix(rows):
+    """Weights as `0.5 of symbol 3`."""
+    return ", ".join(f"{weight:g} of symbol {symbol}" for symbol, weight in map(read_weight, rows)) or "no weights"
+
+
 def asked(name, rest):
     """A call in plain English."""
     if name == "new":
         return f"a new broker; first quotes: {table(rest[rest.index('/') + 1:])}"
     if name == "check":
         return f"a check on {table(rest[:rest.index('/')])}"
+    if name == "update":
+        return f"a check on {table(rest[1:rest.index('/')])}, then orders for {mix(rest[rest.index('/', rest.index('/') + 1) + 1:])}"
     if name in ("deposit", "withdraw", "liquidate"):
         return f"{name} {money(number(rest[0]))}"
     if name in ("send", "insert"):
         return f"{name} a {order(rest[0])}"
+    if name == "send_list":
+        return f"send {len(rest) - 1} orders"
     return name.replace("get_", "read the ").replace("_", " ")
 
 
 def refused(drawn):
     return f"Refused with number {drawn}: {MEANINGS[int(drawn)]}"
+
+
+def event(word):
+    """An order's event: taken, or its number in words."""
+    drawn, _, rest = word.partition(":")
+    return f"{order(rest)}: {'taken' if drawn == 'taken' else refused(drawn).lower()}"
+
+
+def event_lines(name, words):
+    """The events of an update or of a list of orders, one a line; none for other calls and refused ones."""
+    if words[0] == "refused" or name not in ("update", "send_list"):
+        return []
+    return [event(word) for word in words[3 if name == "update" else 1:]]
 
 
 def answered(name, words):
@@ -65,6 +69,10 @@ def answered(name, words):
         return "Taken; it waits for the next check to book it" if taken else refused(words[0].split(":")[0])
     if name == "check":
         return f"Done: {words[1]} traded, {words[3]} sales queued to raise cash"
+    if name == "update":
+        return f"Done: the account's value is {money(number(words[1]))}, and {words[2]} orders were sent"
+    if name == "send_list":
+        return f"Done: {words[0]} orders were sent"
     if name == "get_cash_balance":
         return f"It is {money(number(words[0]))}"
     return f"It is {words[0]}" if name.startswith("get_") else words[0].capitalize()

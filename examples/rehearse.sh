@@ -1,21 +1,17 @@
 #!/bin/sh
-# A rehearsal for a person at a shell: five years of a savings plan, its value at each month end, the final account,
-# a table of every day and a picture. Ends with status 0 only if every call went through and the figures agree.
-# REHEARSE names another build of the program.
+# Two rehearsals for a person at a shell: two funds over ten days from two small CSV files, and ten made-up securities over
+# five years. Each sheet is printed; the picture and every day are in target/examples. REHEARSE names another build of the program.
 set -eu
 cd "$(dirname "$0")/.."
-program=${REHEARSE:-target/bin/rehearse}
 work=target/examples
 mkdir -p "$work"
 [ -n "${REHEARSE:-}" ] || tools/build.sh engine
+export REHEARSE="${REHEARSE:-target/bin/rehearse}"
 
-python3 -B examples/savings_mix.py > "$work/savings-mix.txt"
-"$program" < "$work/savings-mix.txt" > "$work/savings-mix.answers"
-echo "A savings plan in ten made-up securities, rehearsed on five years of closing quotes."
-echo "Paid in and rebalanced on the first trading day of each month; orders fill two trading days later."
+echo "== two funds, ten days: examples/two-funds"
+sheet/sheet.sh --quotes examples/two-funds/quotes.csv --weights examples/two-funds/weights.csv \
+    --plan examples/two-funds/plan.txt --to "$work/two-funds"
 echo
-python3 -B examples/curve.py "$work/savings-mix.txt" "$work/savings-mix.answers" "$work"
-echo
-echo "every day:    $work/savings-mix.csv"
-echo "the picture:  $work/savings-mix.svg"
-echo "the scenario and its answers: $work/savings-mix.txt, $work/savings-mix.answers"
+echo "== ten securities, five years, made up by examples/savings_mix.py"
+python3 -B examples/savings_mix.py "$work"
+sheet/sheet.sh --quotes "$work/quotes.csv" --weights "$work/weights.csv" --plan examples/savings-mix.plan --to "$work/savings-mix"

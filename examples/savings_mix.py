@@ -1,6 +1,6 @@
-"""savings_mix.py: print the scenario of a savings plan in ten securities over five years of closing quotes.
+"""savings_mix.py FOLDER: write quotes.csv and weights.csv of ten made-up securities over five years of closing quotes.
 
-The securities and every quote are made up by this rule, so that each machine gets the same text.
+Every quote is made up by this rule, so that each machine gets the same text.
 
 Days: Monday to Friday from 2021 to 2025, without 1 January, Good Friday, Easter Monday, 1 May, 25 and 26 December.
 Draws: those of tools/scenario/draws.py from SEED on. A shock is the sum of twelve draws over 65,536, less 6: about normal, mean 0,
@@ -9,12 +9,9 @@ Quotes: each day has a common shock, then one of its own for each security in tu
 drift / 252 + volatility / sqrt(252) * (c * common + sqrt(1 - c * c) * own) of itself and is rounded to cents.
 Bid and ask lie 0.05 % of the mid, rounded up to cents, below and above it.
 
-Plan: 20,000 is paid in on the first day and 500 on the first trading day of each later month. On these days the account is
-rebalanced by `update`; on every other day it is only checked. An order waits until the next day's check books it and trades a day
-later, so a rebalancing each day would send orders again before the first ones have filled: months, not days, are the plan's rhythm.
 The weights sum to 0.95: the cash left over absorbs price moves between sending and filling.
-Costs: 0.1 % of the value and 1 flat. They make orders smaller; the engine does not take them from cash.
 """
+import csv
 import datetime
 import math
 import os
@@ -23,26 +20,22 @@ import sys
 # tools/ has the shared package.
 sys.path.insert(0, os.path.join(os.path.dirname(os.path.dirname(os.path.abspath(__file__))), "tools"))
 
-from scenario import lines
 from scenario.draws import Draws
 
 SEED = 35
-FIRST_PAYMENT = 20000.0
-MONTHLY_PAYMENT = 500.0
-LOG = 4096
 EASTER = {2021: (4, 4), 2022: (4, 17), 2023: (4, 9), 2024: (3, 31), 2025: (4, 20)}
 # name, weight, first mid, drift a year, volatility a year, c
 MIX = [
-    ("world shares", 0.30, 38.40, 0.075, 0.15, 0.90),
-    ("emerging market shares", 0.08, 21.15, 0.070, 0.19, 0.75),
-    ("small company shares", 0.07, 26.80, 0.080, 0.20, 0.80),
-    ("property shares", 0.05, 14.60, 0.050, 0.17, 0.65),
-    ("euro government bonds", 0.15, 32.25, 0.020, 0.05, 0.05),
-    ("euro company bonds", 0.10, 24.70, 0.030, 0.05, 0.35),
-    ("inflation-linked bonds", 0.06, 18.95, 0.025, 0.06, 0.10),
-    ("short-dated bonds", 0.06, 12.10, 0.020, 0.015, 0.05),
-    ("gold", 0.05, 16.45, 0.045, 0.14, 0.10),
-    ("money market", 0.03, 50.25, 0.020, 0.003, 0.00),
+    ("world shares", "0.30", 38.40, 0.075, 0.15, 0.90),
+    ("emerging market shares", "0.08", 21.15, 0.070, 0.19, 0.75),
+    ("small company shares", "0.07", 26.80, 0.080, 0.20, 0.80),
+    ("property shares", "0.05", 14.60, 0.050, 0.17, 0.65),
+    ("euro government bonds", "0.15", 32.25, 0.020, 0.05, 0.05),
+    ("euro company bonds", "0.10", 24.70, 0.030, 0.05, 0.35),
+    ("inflation-linked bonds", "0.06", 18.95, 0.025, 0.06, 0.10),
+    ("short-dated bonds", "0.06", 12.10, 0.020, 0.015, 0.05),
+    ("gold", "0.05", 16.45, 0.045, 0.14, 0.10),
+    ("money market", "0.03", 50.25, 0.020, 0.003, 0.00),
 ]
 
 
@@ -64,50 +57,41 @@ def trading_days():
         day += datetime.timedelta(days=1)
 
 
-def table(cents, date):
-    """The rows of a day, from the mids in whole cents."""
-    rows = []
-    for symbol, mid in enumerate(cents):
-        half = math.ceil(mid / 2000)
-        rows.append((symbol, (mid - half) / 100, (mid + half) / 100, date))
-    return rows
+def cents(amount):
+    """An amount of whole cents, as text."""
+    return f"{amount // 100}.{amount % 100:02}"
 
 
-def moved(cents, draws):
-    """The next day's mids."""
-    common, mids = shock(draws), []
-    for mid, (_, _, _, drift, volatility, c) in zip(cents, MIX):
+def moved(mids, draws):
+    """The next day's mids, in whole cents."""
+    common, found = shock(draws), []
+    for mid, (_, _, _, drift, volatility, c) in zip(mids, MIX):
         mixed = c * common + math.sqrt(1 - c * c) * shock(draws)
-        mids.append(round(mid * (1 + drift / 252 + volatility / math.sqrt(252) * mixed)))
-    return mids
+        found.append(round(mid * (1 + drift / 252 + volatility / math.sqrt(252) * mixed)))
+    return found
 
 
-def day_lines(rows, payment):
-    """A trading day: the payment and the rebalancing where one is due, and the figures of the evening."""
-    if payment:
-        yield lines.amount("deposit", payment)
-        yield lines.update(len(MIX), rows, rows, [(symbol, row[1]) for symbol, row in enumerate(MIX)])
-    else:
-        yield lines.check(rows, rows)
-    yield from ("get_total_value", "get_cash_balance", "executed_trade_count")
-
-
-def scenario():
-    draws, cents = Draws(SEED), [round(row[2] * 100) for row in MIX]
-    month = None
-    yield "# A savings plan in ten made-up securities, made by examples/savings_mix.py."
-    for symbol, row in enumerate(MIX):
-        yield f"# name {symbol} {row[0]}"
-    yield "quiet"
+def quotes():
+    """The rows of every day."""
+    draws, mids = Draws(SEED), [round(row[2] * 100) for row in MIX]
     for day in trading_days():
-        rows = table(cents, int(f"{day:%Y%m%d}"))
-        if month is None:
-            yield lines.new(LOG, [("pct_of_value", 0.001), ("flat", 1.0)], rows)
-        payment = 0.0 if month == day.month else MONTHLY_PAYMENT if month else FIRST_PAYMENT
-        yield from day_lines(rows, payment)
-        month, cents = day.month, moved(cents, draws)
-    yield "state"
+        for row, mid in zip(MIX, mids):
+            half = math.ceil(mid / 2000)
+            yield day, row[0], cents(mid - half), cents(mid + half)
+        mids = moved(mids, draws)
+
+
+def write(path, head, rows):
+    with open(path, "w", newline="") as out:
+        table = csv.writer(out, lineterminator="\n")
+        table.writerow(head)
+        table.writerows(rows)
+
+
+def main(folder):
+    write(os.path.join(folder, "quotes.csv"), ["date", "security", "bid", "ask"], quotes())
+    write(os.path.join(folder, "weights.csv"), ["security", "weight"], [row[:2] for row in MIX])
 
 
 if __name__ == "__main__":
-    print("\n".join(scenario()))
+    main(*sys.argv[1:])

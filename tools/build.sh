@@ -7,29 +7,35 @@
 set -eu
 cd "$(dirname "$0")/.."
 
+# Another kit may refuse what this one proved, so its identity is held to the one that the project was proved with.
+same_kit() {
+    kit=$(rt version)
+    [ "$kit" = "$(cat tools/kit-version)" ] ||
+        echo "warning: the kit here is '$kit'; the project was proved with '$(cat tools/kit-version)'" >&2
+}
+
 # rt does not notice where a proved program was removed, so that it is then linked anew.
-forget_removed() {
+engine() {
+    tools/need.sh rt python3
+    same_kit
     [ -x target/bin/rehearse ] || rm -f target/stamp/rehearse
+    exec python3 -B tools/proving.py rehearse "$@" >&2
 }
 
-recording() {
-    mkdir -p target
-    if rt check rehearse > target/rehearse.out 2>&1; then
-        return
-    fi
-    cat target/rehearse.out
-    grep -q '^rt: rehearse proved, and its run FAILED' target/rehearse.out
-}
-
-forget_removed
-for part in "$@"; do
-    case $part in
-    engine) rt check rehearse >&2 ;;
-    recording) recording >&2 ;;
-    oracle) oracle/build.sh --changed >&2 ;;
-    *)
-        echo "build.sh: there is no part $part" >&2
-        exit 2
-        ;;
-    esac
+# All parts but the last are built by this script's own runs; the last takes its place, so that it sees when its caller ends.
+while [ $# -gt 1 ]; do
+    tools/build.sh "$1"
+    shift
 done
+case ${1:-} in
+engine) engine ;;
+recording) engine --recording ;;
+oracle)
+    tools/need.sh cargo python3
+    exec oracle/build.sh --changed >&2
+    ;;
+*)
+    echo "build.sh: there is no part '${1:-}'" >&2
+    exit 2
+    ;;
+esac

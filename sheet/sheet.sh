@@ -1,0 +1,7 @@
+#!/bin/sh
+# A fact sheet from closing quotes, weights and a plan: sheet.sh --quotes CSV --weights CSV --plan FILE --to FOLDER (--help says more).
+# Builds the program where it is out of date. REHEARSE names another build of it.
+set -eu
+here=$(cd "$(dirname "$0")" && pwd)
+[ -n "${REHEARSE:-}" ] || "$here/../tools/build.sh" engine
+exec python3 -B "$here/sheet.py" "$@"
