@@ -10,6 +10,7 @@ import hashlib
 import os
 import pathlib
 import resource
+import signal
 import subprocess
 import sys
 import time
@@ -145,4 +146,9 @@ def main(rounds, *names):
 
 
 if __name__ == "__main__":
-    main(*sys.argv[1:])
+    # Told to end, it ends the engine that it runs too.
+    signal.signal(signal.SIGTERM, signal.default_int_handler)
+    try:
+        main(*sys.argv[1:])
+    except KeyboardInterrupt:
+        sys.exit("stopped")

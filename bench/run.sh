@@ -4,7 +4,7 @@
 # Builds what is out of date. REHEARSE names another build of the Rattle program.
 set -eu
 cd "$(dirname "$0")/.."
-[ -n "${REHEARSE:-}" ] || tools/build.sh engine
-tools/build.sh oracle
+# In the background, since a shell that is interrupted waits for what it runs in front.
+tools/build.sh oracle engine & wait $!
 [ $# -gt 0 ] || set -- 5
 exec python3 -B bench/bench.py "$@"

@@ -1,10 +1,13 @@
 #!/bin/sh
 # Compares the engine with the Rust and with document 01's model, by compare.py, which takes the same options.
-# Builds what is out of date; the engine not, where --engine names one.
+# Builds what is out of date; the engine not, where --engine or REHEARSE names one.
 set -eu
 root=$(cd "$(dirname "$0")/.." && pwd)
+[ -z "${REHEARSE:-}" ] || set -- --engine "$REHEARSE" "$@"
 case " $* " in
-*" --engine"*) "$root/tools/build.sh" oracle ;;
-*) "$root/tools/build.sh" oracle engine ;;
+*" --engine"*) parts=oracle ;;
+*) parts="oracle engine" ;;
 esac
+# In the background, since a shell that is interrupted waits for what it runs in front.
+"$root/tools/build.sh" $parts & wait $!
 exec python3 -B "$root/compare/compare.py" "$@"

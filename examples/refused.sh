@@ -6,7 +6,8 @@ cd "$(dirname "$0")/.."
 program=${REHEARSE:-target/bin/rehearse}
 work=target/examples
 mkdir -p "$work"
-[ -n "${REHEARSE:-}" ] || tools/build.sh engine
+# In the background, since a shell that is interrupted waits for what it runs in front.
+tools/build.sh engine & wait $!
 
 "$program" < examples/refused.txt > "$work/refused.answers"
 python3 -B examples/explain.py examples/refused.txt "$work/refused.answers"

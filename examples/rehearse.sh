@@ -5,7 +5,8 @@ set -eu
 cd "$(dirname "$0")/.."
 work=target/examples
 mkdir -p "$work"
-[ -n "${REHEARSE:-}" ] || tools/build.sh engine
+# In the background, since a shell that is interrupted waits for what it runs in front.
+tools/build.sh engine & wait $!
 export REHEARSE="${REHEARSE:-target/bin/rehearse}"
 
 echo "== two funds, ten days: examples/two-funds"

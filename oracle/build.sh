@@ -4,6 +4,7 @@
 # With --changed, only where the sources' sum is not the one that the last build left in target/oracle/sources.sum.
 set -eu
 here=$(cd "$(dirname "$0")" && pwd)
+"$here/../tools/need.sh" cargo
 out=$(dirname "$here")/target/oracle
 work=$out/work
 

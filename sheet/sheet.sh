@@ -3,5 +3,6 @@
 # Builds the program where it is out of date. REHEARSE names another build of it.
 set -eu
 here=$(cd "$(dirname "$0")" && pwd)
-[ -n "${REHEARSE:-}" ] || "$here/../tools/build.sh" engine
+# In the background, since a shell that is interrupted waits for what it runs in front.
+"$here/../tools/build.sh" engine & wait $!
 exec python3 -B "$here/sheet.py" "$@"

@@ -3,6 +3,7 @@
 # Ends with a status other than 0 if any result differs. Work files go to target/compare-libm/.
 set -eu
 cd "$(dirname "$0")/.."
+tools/need.sh rt cc
 work=target/compare-libm
 mkdir -p "$work"
 rt staticlib floats_c

@@ -1,8 +1,18 @@
 #!/bin/sh
-# need.sh PROGRAM..: says in a sentence which of these programs are not there, and fails where one is missing.
+# need.sh PROGRAM..: says in a sentence which of these programs are not there, and fails where one is missing. Where rt is asked for, it
+# warns if the kit is another than the one that the project was proved with: another may refuse what this one proved.
+same_kit() {
+    read -r pinned < "${0%/*}/kit-version"
+    kit=$(rt version 2> /dev/null)
+    [ "$kit" = "$pinned" ] || echo "warning: the kit here is '$kit'; the project was proved with '$pinned'" >&2
+}
+
 missing=0
 for program in "$@"; do
-    command -v "$program" > /dev/null 2>&1 && continue
+    if command -v "$program" > /dev/null 2>&1; then
+        [ "$program" != rt ] || same_kit
+        continue
+    fi
     missing=1
     case $program in
     rt) echo "rt, the Rattle kit's command, is not there: install the kit and put its bin on PATH" >&2 ;;

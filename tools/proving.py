@@ -1,152 +1,125 @@
-"""proving.py CRATE [--recording]: `rt check CRATE`, told in a line for each crate that has to be proved: which it is of how many, and how
-long it took last time. The whole output is in target/build.out, the times in target/build.times. With --recording a program that
-is proved and writes something else than was recorded counts as built. Interrupted, it leaves no process behind.
+"""`rt check CRATE`, told in a line for each crate while it is proved: which it is of how many, and how long it took last time.
+
+rt keeps what a crate's check says in target/log/CRATE.out from the check's start on, so a file that is newer than the run tells that its
+crate is at work. The whole output is in target/build.out. The times are kept in target/build.times.
 """
 import os
 import re
-import selectors
-import signal
-import subprocess
 import sys
 
+import group
+
 ROOT = os.path.dirname(os.path.dirname(os.path.abspath(__file__)))
-OUT, TIMES = (os.path.join(ROOT, "target", name) for name in ("build.out", "build.times"))
-PROVED = re.compile(r"rt: (\w+) proved(?: \((\d+) s\)| \(unchanged)?")
-# Seconds without news after which a crate is taken to be at work.
-PATIENCE = 0.5
+TARGET = os.path.join(ROOT, "target")
+OUT, TIMES = os.path.join(TARGET, "build.out"), os.path.join(TARGET, "build.times")
+PROVED = re.compile(r"rt: (\w+) proved \((?:(\d+) s|unchanged)")
 
 
-def uses():
-    """The repository's crates, each with those that it uses, in the order of crates.txt."""
+def reached(crate):
+    """The crate, and the repository's crates that it uses, by crates.txt."""
     with open(os.path.join(ROOT, "crates.txt"), encoding="utf-8") as file:
-        lines = [line.partition(":") for line in file if line.strip() and not line.startswith("#")]
-    names = [name.strip() for name, _, _ in lines]
-    return {name.strip(): [one for one in rest.split() if one in names] for name, _, rest in lines}
+        rows = (line.partition("#")[0].partition(":") for line in file)
+        used = {name.strip(): rest.split() for name, colon, rest in rows if colon}
+    found, todo = set(), [crate]
+    while todo:
+        name = todo.pop()
+        if name in used and name not in found:
+            found.add(name)
+            todo.extend(used[name])
+    return found
 
 
-def depth(name, used):
-    return 1 + max((depth(one, used) for one in used[name]), default=-1)
-
-
-def reached(name, used):
-    return {name}.union(*(reached(one, used) for one in used[name]))
-
-
-def order(crate):
-    """The crates to prove, in rt's order: those that use fewer layers first."""
-    used = uses()
-    wanted = reached(crate, used)
-    return sorted((name for name in used if name in wanted), key=lambda name: depth(name, used))
-
-
-def last_times():
+def lines_of(path):
     try:
-        with open(TIMES, encoding="utf-8") as file:
-            return dict(line.split() for line in file)
-    except (OSError, ValueError):
-        return {}
+        with open(path, encoding="utf-8", errors="replace") as file:
+            return file.read().splitlines()
+    except OSError:
+        return []
 
 
-def keep_times(times):
-    with open(TIMES, "w", encoding="utf-8") as file:
-        file.writelines(f"{name} {seconds}\n" for name, seconds in times.items())
+def log_of(crate):
+    return os.path.join(TARGET, "log", f"{crate}.out")
+
+
+def last_times(crates):
+    """The seconds of each crate's last proof: as kept, or as rt's own log has them, where it proved the crate by itself."""
+    found = dict(line.split() for line in lines_of(TIMES))
+    for match in (PROVED.match(line) for crate in crates for line in lines_of(log_of(crate))):
+        if match and match.group(2):
+            found[match.group(1)] = match.group(2)
+    return found
 
 
 class Told:
-    """What is said on standard error: a crate is announced once it is at work."""
+    """What is said on standard error while rt runs, and what is kept of its output."""
 
-    def __init__(self, names):
-        self.names, self.times, self.at, self.announced = names, last_times(), 0, False
+    def __init__(self, crates, out):
+        self.crates, self.out, self.times = crates, out, last_times(crates)
+        self.began, self.known, self.rest = os.stat(OUT).st_mtime_ns, set(), b""
 
-    def waits(self):
-        """Nothing came for a while: the next crate is being proved."""
-        if self.announced or self.at >= len(self.names):
-            return
-        name = self.names[self.at]
-        before = f" ({self.times[name]} s last time)" if name in self.times else ""
-        print(f"proving {self.at + 1} of {len(self.names)}: {name}{before}", file=sys.stderr, flush=True)
-        self.announced = True
+    def heard(self, piece):
+        """A piece of rt's output, or nothing, after a silence."""
+        self.out.write(piece)
+        *lines, self.rest = (self.rest + piece).split(b"\n")
+        for match in (PROVED.match(line.decode(errors="replace")) for line in lines):
+            if match:
+                self.ended(*match.groups())
+        if not piece:
+            self.name_those_at_work()
 
-    def hears(self, line):
-        """A line of rt's: a crate that is proved is behind us."""
-        found = PROVED.match(line)
-        if found is None or found.group(1) not in self.names:
-            return
-        self.at, self.announced = self.names.index(found.group(1)) + 1, False
-        if found.group(2):
-            self.times[found.group(1)] = found.group(2)
+    def ended(self, crate, seconds):
+        """A crate that is proved needs no announcement any more; one that is unchanged has no new time."""
+        self.known.add(crate)
+        if seconds:
+            self.times[crate] = seconds
 
+    def name_those_at_work(self):
+        for crate in sorted(self.crates - self.known):
+            if self.is_at_work(crate):
+                self.announce(crate)
 
-def listen(process, told, out):
-    """Keeps what rt writes, and tells of it, until it ends."""
-    waiting, rest, caller = selectors.DefaultSelector(), b"", os.getppid()
-    waiting.register(process.stdout, selectors.EVENT_READ)
-    while True:
-        if os.getppid() != caller:
-            raise KeyboardInterrupt
-        if not waiting.select(PATIENCE):
-            told.waits()
-            continue
-        block = os.read(process.stdout.fileno(), 65536)
-        if not block:
-            return
-        out.write(block)
-        *lines, rest = (rest + block).split(b"\n")
-        for line in lines:
-            told.hears(line.decode(errors="replace"))
-
-
-def stop(process):
-    """Ends rt and everything that it started."""
-    try:
-        os.killpg(process.pid, signal.SIGTERM)
-        process.wait(5)
-    except (ProcessLookupError, subprocess.TimeoutExpired):
-        pass
-    finally:
-        if process.poll() is None:
-            os.killpg(process.pid, signal.SIGKILL)
-
-
-def check(crate, told):
-    """Runs rt; answers its status."""
-    with open(OUT, "wb") as out:
-        process = subprocess.Popen(["rt", "check", crate], cwd=ROOT, stdout=subprocess.PIPE, stderr=subprocess.STDOUT, start_new_session=True)
+    def is_at_work(self, crate):
         try:
-            listen(process, told, out)
-            return process.wait()
-        except BaseException:
-            stop(process)
-            raise
+            return os.stat(log_of(crate)).st_mtime_ns >= self.began
+        except OSError:
+            return False
+
+    def announce(self, crate):
+        self.known.add(crate)
+        before = f" ({self.times[crate]} s last time)" if crate in self.times else ""
+        print(f"proving {len(self.known)} of {len(self.crates)}: {crate}{before}", file=sys.stderr, flush=True)
+
+    def keep_times(self):
+        with open(TIMES, "w", encoding="utf-8") as file:
+            file.writelines(f"{crate} {seconds}\n" for crate, seconds in self.times.items())
+
+
+def unproved(lines):
+    """What was said but for the crates that are proved; what stands before a line of rt's belongs to it."""
+    block = []
+    for line in lines:
+        block.append(line)
+        if line.startswith("rt: "):
+            yield from [] if PROVED.match(line) else block
+            block = []
+    yield from block
 
 
 def is_recorded_otherwise(crate):
-    with open(OUT, encoding="utf-8", errors="replace") as file:
-        return any(line.startswith(f"rt: {crate} proved, and its run FAILED") for line in file)
+    """Is the program proved, and only its answers are not those recorded?"""
+    return any(line.startswith(f"rt: {crate} proved, and its run FAILED") for line in lines_of(OUT))
 
 
-def interrupted(*_):
-    raise KeyboardInterrupt
-
-
-def main(crate, *words):
-    signal.signal(signal.SIGTERM, interrupted)
-    signal.signal(signal.SIGHUP, interrupted)
-    os.makedirs(os.path.dirname(OUT), exist_ok=True)
-    told = Told(order(crate))
-    try:
-        status = check(crate, told)
-    except KeyboardInterrupt:
-        sys.exit("stopped")
-    finally:
-        keep_times(told.times)
-    if status and "--recording" in words and is_recorded_otherwise(crate):
-        return
+def check(crate):
+    """Runs rt, and says what it said of crates that are not proved; answers its status."""
+    os.makedirs(TARGET, exist_ok=True)
+    with open(OUT, "wb") as out:
+        told = Told(reached(crate), out)
+        try:
+            status = group.run(["rt", "check", crate], told.heard)
+        finally:
+            told.keep_times()
     if status:
-        with open(OUT, encoding="utf-8", errors="replace") as file:
-            said = [line for line in file if line.startswith("rt:") or "error" in line]
-        sys.exit("".join(said[-12:]) + f"{crate} is not proved (status {status}); all that was said is in target/build.out")
-
-
-if __name__ == "__main__":
-    main(*sys.argv[1:])
+        said = (line for line in unproved(lines_of(OUT)) if not line.endswith(": proved"))
+        print(*said, f"rt check {crate} ended with status {status}; all that it said is in target/build.out", sep="\n", file=sys.stderr)
+    return status

@@ -3,7 +3,6 @@
 # Builds the program where it is out of date. REHEARSE names another build of it.
 set -eu
 root=$(cd "$(dirname "$0")/../.." && pwd)
-"$root/tools/need.sh" python3
-[ -n "${REHEARSE:-}" ] || "$root/tools/build.sh" engine
-export REHEARSE="${REHEARSE:-$root/target/bin/rehearse}"
+# In the background, since a shell that is interrupted waits for what it runs in front.
+"$root/tools/build.sh" engine & wait $!
 cd "$root/sheet/tests" && exec python3 -B -m unittest
