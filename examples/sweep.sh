@@ -2,7 +2,7 @@
 # Many mixes over the same quotes, through GNU parallel:
 #   sweep.sh --quotes CSV --plan FILE --to FOLDER [--jobs N] [--hosts FILE] WEIGHTS.csv..
 # Each mix has its sheet in FOLDER/sheets/NAME; their figures are joined in FOLDER/mixes.csv and FOLDER/mixes.svg. Interrupted, the
-# same command goes on with the mixes that were not run. Hosts, one a line, are reached by ssh and see the same folders.
+# same command goes on with the mixes that are missing. Hosts, one a line, are reached by ssh and see the same folders.
 # REHEARSE names another build of the program.
 set -eu
 root=$(cd "$(dirname "$0")/.." && pwd)
@@ -23,20 +23,34 @@ while [ $# -gt 0 ]; do
     esac
 done
 [ -n "$quotes" ] && [ -n "$plan" ] && [ -n "$folder" ] && [ $# -gt 0 ] || usage
-"$root/tools/need.sh" python3 parallel
-[ -n "${REHEARSE:-}" ] || "$root/tools/build.sh" engine
+"$root/tools/need.sh" parallel
+# In the background, since a shell that is interrupted waits for what it runs in front.
+"$root/tools/build.sh" engine & wait $!
 
 mkdir -p "$folder/sheets"
 folder=$(cd "$folder" && pwd)
-sheet="$root/sheet/sheet.py"
 python3 -B "$root/sheet/mixes.py" "$folder" "$quotes" "$plan" "$@"
-python3 -B "$sheet" --quotes "$quotes" --weights "$@" --prepare "$folder/quotes.ready"
+python3 -B "$root/sheet/sheet.py" --quotes "$quotes" --weights "$@" --prepare "$folder/quotes.ready"
 
-# A mix that fails says why in its .told file; the others go on.
-export REHEARSE="${REHEARSE:-$root/target/bin/rehearse}"
-[ -z "$hosts" ] || set -- --sshloginfile "$hosts" --env REHEARSE
-[ -n "$hosts" ] || set --
-parallel "$@" --will-cite --jobs "$jobs" --colsep '\t' --joblog "$folder/joblog" --resume --arg-file "$folder/mixes.txt" \
-    python3 -B "$sheet" --prepared "$folder/quotes.ready" --weights {2} --plan "$plan" --to "$folder/sheets/{1}" \
-    '>' "$folder/sheets/{1}.told" '2>&1' || true
+REHEARSE=${REHEARSE:-$root/target/bin/rehearse}
+case $REHEARSE in /*) ;; *) REHEARSE=$PWD/$REHEARSE ;; esac
+export REHEARSE
+# On this machine the interpreter itself, without site packages: it starts sooner than one behind a shim.
+python="$(python3 -c 'import sys; print(sys.executable)') -S"
+set --
+[ ! -t 2 ] || set -- --bar
+[ -z "$hosts" ] || { set -- "$@" --sshloginfile "$hosts" --env REHEARSE; python=python3; }
+# A mix that fails says why in its file; the others go on.
+parallel "$@" --will-cite --jobs "$jobs" --workdir "$root" --colsep '\t' --trim n --joblog "$folder/joblog" --resume-failed \
+    --arg-file "$folder/mixes.txt" \
+    $python -B sheet/sheet.py --no-scenario --prepared {3} --weights {2} --plan {4} --to {5} '>' {6} '2>&1' &
+running=$!
+stop() {
+    kill "$running" 2> /dev/null || true
+    wait "$running" || true
+    echo "stopped; the same command goes on from here" >&2
+    exit 130
+}
+trap stop INT TERM HUP
+wait "$running" || true
 exec python3 -B "$root/sheet/joined.py" "$folder"

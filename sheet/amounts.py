@@ -35,3 +35,14 @@ def whole(day):
 def money(x):
     """An amount for the reader, with two digits and thousands apart."""
     return f"{x:,.2f}"
+
+
+def quantity(x):
+    """Shares for the reader: whole, or with up to four digits behind the point."""
+    return f"{x:,.4f}".rstrip("0").rstrip(".")
+
+
+def price(x):
+    """A price for the reader, with two to six digits behind the point."""
+    text = f"{x:,.6f}".rstrip("0")
+    return text + "0" * (2 - len(text.partition(".")[2]))

@@ -10,7 +10,7 @@ READS = ("get_total_value", "get_cash_balance", "executed_trade_count")
 
 def name_order(name):
     """Names that are whole numbers by their size, before the others by their letters."""
-    return (0, int(name), name) if name.isdigit() else (1, 0, name)
+    return (0, int(name), name) if name.isdecimal() else (1, 0, name)
 
 
 def numbers(securities):
@@ -30,9 +30,9 @@ def tables(days, symbols):
     return [(day, text) for day, text in made if text]
 
 
-def log_rows(count, securities):
-    """A log that the orders of so many rebalancings fit in twice, if the program has one."""
-    return LOG if 2 * count * securities <= LOG else LARGE_LOG
+def log_rows(schedule, securities):
+    """A log that the orders of all rebalancings fit in twice, if the program has one: sales for a shortfall of cash come beside them."""
+    return LOG if 2 * sum(day.rebalance for day in schedule) * securities <= LOG else LARGE_LOG
 
 
 def day_lines(day, text, mix):
@@ -46,19 +46,18 @@ def day_lines(day, text, mix):
 
 
 def answer_count(schedule):
-    """How many lines a run writes, but for those of the last state."""
+    """How many lines of a scenario are answered."""
     return 4 + sum(1 + len(READS) + bool(day.deposit) + bool(day.withdraw) for day in schedule)
 
 
 def scenario(plan, schedule, texts, symbols, weights):
     """The scenario's lines. The first day's quotes are also the broker's first table."""
     mix = sorted((symbols[name], weight) for name, weight in weights.items())
-    log = log_rows(sum(day.rebalance for day in schedule), len(mix))
     yield f"# {plan.title}"
     for name, symbol in symbols.items():
         yield f"# name {symbol} {name}"
     yield "quiet"
-    yield lines.joined("new", str(log), [words.cost(row) for row in plan.costs], "/", texts[0])
+    yield lines.joined("new", str(log_rows(schedule, len(mix))), [words.cost(row) for row in plan.costs], "/", texts[0])
     for day, text in zip(schedule, texts):
         yield f"# {day.date}"
         yield from day_lines(day, text, mix)

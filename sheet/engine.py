@@ -1,5 +1,6 @@
 """The program, run on a scenario: answers as they come, progress on a terminal, and what went wrong in a sentence."""
 import resource
+import signal
 import subprocess
 import sys
 import threading
@@ -15,17 +16,18 @@ class Progress:
 
     def __init__(self, name, total, stream=sys.stderr):
         self.name, self.total, self.stream, self.shown = name, total, stream, -1
-        self.live = stream.isatty() and total > 0
+        self.live = stream.isatty()
 
     def at(self, done):
-        part = done * 100 // self.total if self.live else -1
+        part = min(done * 100 // self.total, 100) if self.live else -1
         if part != self.shown:
             self.shown = part
             self.stream.write(f"\r{self.name}: {part} %")
             self.stream.flush()
 
     def over(self):
-        if self.live and self.shown >= 0:
+        """The line goes."""
+        if self.shown >= 0:
             self.stream.write("\r\033[K")
             self.stream.flush()
 
@@ -40,17 +42,18 @@ def raise_stack():
 def start(program, large):
     command = [program] + (["large"] if large else [])
     try:
-        return subprocess.Popen(command, stdin=subprocess.PIPE, stdout=subprocess.PIPE, stderr=subprocess.PIPE,
-                                text=True, preexec_fn=raise_stack if large else None)
+        return subprocess.Popen(command, stdin=subprocess.PIPE, stdout=subprocess.PIPE, stderr=subprocess.PIPE, encoding="utf-8", errors="replace",
+                                preexec_fn=raise_stack if large else None)
     except OSError as error:
         raise Faults([f"{program}: can't be started ({error.strerror}); build it with tools/build.sh engine"])
 
 
 def feed(process, text):
+    """Writes the scenario; a program that ends before it has read all is found by its answers."""
     try:
         process.stdin.write(text)
         process.stdin.close()
-    except BrokenPipeError:
+    except OSError:
         pass
 
 
@@ -69,17 +72,25 @@ def answers_of(process, progress):
     return answers
 
 
-def run(program, text, large, progress):
-    """The lines that the program writes for a scenario. A program that ends badly, or says something on standard error, is a fault."""
+def ending(status):
+    """How a process ended, in words."""
+    return f"status {status}" if status >= 0 else f"signal {signal.Signals(-status).name}"
+
+
+def run(program, text, large, total):
+    """The lines that the program writes for a scenario with so many answers. A run is complete where they are all there and nothing was said
+    on standard error; any other is a fault."""
     with start(program, large) as process:
         told = []
         helpers = [threading.Thread(target=feed, args=(process, text), daemon=True),
-                   threading.Thread(target=lambda: told.append(process.stderr.read().strip()), daemon=True)]
+                   threading.Thread(target=lambda: told.append(" ".join(process.stderr.read().split())), daemon=True)]
         for helper in helpers:
             helper.start()
-        answers = answers_of(process, progress)
+        answers = answers_of(process, Progress("rehearsing", total))
         for helper in helpers:
             helper.join()
-    if process.returncode or told[0]:
-        raise Faults([f"{program}: ended with status {process.returncode} {told[0]}".rstrip()])
+    count = sum(not line.startswith(" ") for line in answers)
+    if process.returncode or told[0] or count != total:
+        raise Faults([f"{program}: {count:,} of {total:,} lines were answered, and it ended with {ending(process.returncode)}"
+                      f"{': ' + told[0] if told[0] else ''}; build it anew with tools/build.sh engine, and see that memory and stack are enough"])
     return answers

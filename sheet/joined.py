@@ -1,76 +1,58 @@
 """joined.py FOLDER: the figures of many sheets as one table (FOLDER/mixes.csv) and one picture (FOLDER/mixes.svg).
 
-FOLDER/mixes.txt has a line for each mix: its name and its weights' file, a tab between them. Its sheet is in FOLDER/sheets/NAME. A mix without
-a sheet is named on standard error, and the others stand.
+The mixes are those of the sweep's list (mixes.py). A mix without a sheet is named on standard error with what was told of it, and the
+others stand; the status is then 1.
 """
 import csv
-import datetime
+import io
 import os
 import sys
 
-# tools/ has the package of the scenario's text.
-sys.path.insert(0, os.path.join(os.path.dirname(os.path.dirname(os.path.abspath(__file__))), "tools"))
-
-import figures
+import mixes
 import output
 import picture
 import report
-from reading import Evening
-
-HEAD = ["mix", "final value", "paid in", "return in all", "return a year", "volatility a year", "largest fall", "trades", "refused"]
-
-
-class Mix:
-    """A mix's name and the evenings of its sheet."""
-
-    def __init__(self, name, evenings, refused):
-        self.name, self.evenings, self.refused = name, evenings, refused
+from faults import Faults
+from table import text_of
 
 
-def evening(row):
-    """A row of days.csv."""
-    found = Evening(datetime.date.fromisoformat(row["date"]))
-    found.value, found.cash = float(row["value"]), float(row["cash"])
-    found.deposit, found.withdraw = float(row["deposit"]), float(row["withdraw"])
-    found.trades = int(row["trades"])
-    return found
+def figures_of(mix):
+    """The figures of a mix by name, as its sheet has them, or None where there is no sheet."""
+    path = os.path.join(mix.sheet, "figures.csv")
+    return next(csv.DictReader(io.StringIO(text_of(path)))) if os.path.exists(path) else None
 
 
-def rows(path):
-    with open(path, encoding="utf-8", newline="") as file:
-        return list(csv.DictReader(file))
+def why(mix):
+    """The first line of what a mix without a sheet told."""
+    told = text_of(mix.told).splitlines() if os.path.exists(mix.told) else []
+    return told[0] if told else "it was not run"
 
 
-def mix(folder, name):
-    """A mix by its sheet, or None where there is none."""
-    sheet = os.path.join(folder, "sheets", name)
-    try:
-        return Mix(name, [evening(row) for row in rows(os.path.join(sheet, "days.csv"))], len(rows(os.path.join(sheet, "refused.csv"))))
-    except FileNotFoundError:
-        return None
+def drawn(made):
+    """The picture: return a year, or in all where some mix has none for a year."""
+    rate = "return a year" if all(found["return a year"] for found in made.values()) else "return in all"
+    return picture.compared([picture.Point(name, float(found["volatility a year"] or 0), float(found[rate])) for name, found in made.items()], rate)
 
 
-def plain(x):
-    return "" if x is None else f"{x:.6f}"
-
-
-def line(found):
-    """A mix's row of the table."""
-    e, fall = found.evenings, figures.largest_fall(found.evenings)
-    return [found.name, f"{e[-1].value:.2f}", f"{figures.paid_in(e):.2f}", plain(figures.time_weighted(e)), plain(figures.a_year(e)), plain(figures.volatility(e)),
-            plain(fall.part if fall else 0.0), e[-1].trades, found.refused]
+def joined(folder):
+    """Writes table and picture; answers the status."""
+    listed = mixes.read(folder)
+    found = {mix.name: figures_of(mix) for mix in listed}
+    made = {name: row for name, row in found.items() if row}
+    head = ["mix", *next(iter(made.values()), {})]
+    output.write(folder, {"mixes.csv": report.csv_text(head, ([name, *row.values()] for name, row in made.items())), "mixes.svg": drawn(made)})
+    print(f"{len(made)} of {len(listed)} mixes: {folder}/mixes.csv, {folder}/mixes.svg")
+    missing = [mix for mix in listed if not found[mix.name]]
+    for mix in missing:
+        print(f"no sheet of {mix.name}: {why(mix)}", file=sys.stderr)
+    return 1 if missing else 0
 
 
 def main(folder):
-    with open(os.path.join(folder, "mixes.txt"), encoding="utf-8") as file:
-        names = [entry.partition("\t")[0] for entry in file.read().splitlines()]
-    found = {name: mix(folder, name) for name in names}
-    made = [one for one in found.values() if one is not None]
-    output.write(folder, {"mixes.csv": report.csv_text(HEAD, map(line, made)), "mixes.svg": picture.compared(made)})
-    print(f"{len(made)} of {len(names)} mixes: {folder}/mixes.csv, {folder}/mixes.svg")
-    for name in [name for name, one in found.items() if one is None]:
-        print(f"no sheet: {name} (why: {folder}/sheets/{name}.told)", file=sys.stderr)
-    sys.exit(0 if len(made) == len(names) else 1)
+    try:
+        sys.exit(joined(folder))
+    except Faults as faults:
+        sys.exit(str(faults))
 
 
 if __name__ == "__main__":

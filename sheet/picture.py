@@ -3,8 +3,6 @@ import datetime
 import html
 import math
 
-import figures
-
 WIDTH, HEIGHT = 960, 540
 LEFT, RIGHT, TOP, BOTTOM = 90, 120, 84, 64
 VALUE, PAID_IN, GRID, INK, FAINT = "#1f5fa8", "#c8641e", "#e3e3e3", "#222222", "#666666"
@@ -20,20 +18,20 @@ def step_for(top):
 
 
 class Scale:
-    """From days and amounts to places in the picture."""
+    """From days and amounts to places in the picture; zero is among the amounts."""
 
     def __init__(self, dates, amounts):
         self.first, self.last = dates[0], dates[-1]
         self.days = max((self.last - self.first).days, 1)
-        top = max([0.0, *amounts])
-        self.step = step_for(top)
-        self.top = (int(top / self.step) + 1) * self.step
+        low, top = min([0.0, *amounts]), max([0.0, *amounts])
+        self.step = step_for(top - low)
+        self.low, self.top = math.floor(low / self.step) * self.step, (int(top / self.step) + 1) * self.step
 
     def x(self, date):
         return LEFT + (date - self.first).days / self.days * (WIDTH - LEFT - RIGHT)
 
     def y(self, amount):
-        return HEIGHT - BOTTOM - amount / self.top * (HEIGHT - TOP - BOTTOM)
+        return HEIGHT - BOTTOM - (amount - self.low) / (self.top - self.low) * (HEIGHT - TOP - BOTTOM)
 
 
 def text(x, y, words, size=13, anchor="middle", colour=INK, more=""):
@@ -45,7 +43,7 @@ def line(x1, y1, x2, y2, colour, width=1):
 
 
 def amount_axis(scale, currency):
-    for amount in range(0, scale.top + 1, scale.step):
+    for amount in range(scale.low, scale.top + 1, scale.step):
         y = scale.y(amount)
         yield line(LEFT, y, WIDTH - RIGHT, y, INK if amount == 0 else GRID)
         yield text(LEFT - 8, y + 4, f"{amount:,}", anchor="end")
@@ -80,11 +78,11 @@ def ticks(first, last):
 
 
 def date_axis(scale):
-    bottom, (dates, form) = scale.y(0), ticks(scale.first, scale.last)
+    bottom, (dates, form) = scale.y(scale.low), ticks(scale.first, scale.last)
     for date in dates:
         yield line(scale.x(date), bottom, scale.x(date), bottom + 6, INK)
         yield text(scale.x(date), bottom + 22, f"{date:{form}}", 12)
-    yield text((LEFT + WIDTH - RIGHT) / 2, HEIGHT - 14, "trading day", colour=FAINT)
+    yield text((LEFT + WIDTH - RIGHT) / 2, HEIGHT - 14, "date", colour=FAINT)
 
 
 def curve(scale, points, colour, steps=False):
@@ -179,18 +177,29 @@ def part_axes(spread):
     yield text((LEFT + WIDTH - RIGHT) / 2, HEIGHT - 14, "volatility a year", colour=FAINT)
 
 
-def point(spread, mix, across, up):
+class Point:
+    """A mix: its name, its volatility and its return, parts of 1."""
+
+    def __init__(self, name, volatility, rate):
+        self.name, self.volatility, self.rate = name, volatility, rate
+
+
+def dot(spread, point):
     """A mix; its name is shown where the pointer rests on it."""
-    words = f"{mix.name}: return {up:.2%}, volatility {across:.2%}"
-    return f'<circle cx="{spread.x(across):.1f}" cy="{spread.y(up):.1f}" r="3.5" fill="{VALUE}" fill-opacity="0.6"><title>{html.escape(words)}</title></circle>'
+    words = f"{point.name}: return {point.rate:.2%}, volatility {point.volatility:.2%}"
+    return (f'<circle cx="{spread.x(point.volatility):.1f}" cy="{spread.y(point.rate):.1f}" r="3.5" fill="{VALUE}" fill-opacity="0.6">'
+            f"<title>{html.escape(words)}</title></circle>")
 
 
-def compared(mixes):
-    """Mixes side by side: return a year, or in all for less than a year, over volatility."""
-    yearly = all(figures.a_year(mix.evenings) is not None for mix in mixes)
-    found = [(mix, figures.volatility(mix.evenings) or 0.0, figures.a_year(mix.evenings) if yearly else figures.time_weighted(mix.evenings)) for mix in mixes]
-    spread = Spread([across for _, across, _ in found], [up for _, _, up in found])
-    best = max(found, key=lambda one: one[2], default=None)
-    return frame(f"{len(mixes)} mixes", f"time-weighted return {'a year' if yearly else 'in all'}, and volatility", [
-        *part_axes(spread), *(point(spread, *one) for one in found),
-        *([text(spread.x(best[1]) + 8, spread.y(best[2]) - 6, best[0].name, 12, "start")] if best else [])])
+def named(spread, point):
+    """A mix's name beside its dot, on the side that has more room."""
+    x, right = spread.x(point.volatility), spread.x(point.volatility) > (LEFT + WIDTH - RIGHT) / 2
+    return text(x - 8 if right else x + 8, spread.y(point.rate) - 6, point.name, 12, "end" if right else "start")
+
+
+def compared(points, rate_name):
+    """Mixes side by side, their returns over their volatility; the highest return is named."""
+    spread = Spread([point.volatility for point in points], [point.rate for point in points])
+    best = [max(points, key=lambda point: point.rate)] if points else []
+    return frame(f"{len(points)} mixes", f"time-weighted {rate_name} over volatility", [
+        *part_axes(spread), *(dot(spread, point) for point in points), *(named(spread, point) for point in best)])

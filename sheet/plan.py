@@ -3,7 +3,16 @@ import amounts
 import table
 from faults import Faults, at, refuse
 
-RHYTHMS = ("daily", "weekly", "monthly", "quarterly", "yearly", "never")
+# What stays the same until a rhythm's next day.
+PERIODS = {
+    "daily": lambda day: day,
+    "weekly": lambda day: tuple(day.isocalendar())[:2],
+    "monthly": lambda day: (day.year, day.month),
+    "quarterly": lambda day: (day.year, (day.month - 1) // 3),
+    "yearly": lambda day: day.year,
+    "never": lambda day: None,
+}
+RHYTHMS = tuple(PERIODS)
 COSTS = ("per_share", "pct_of_value", "flat")
 MOST_COSTS = 16
 
@@ -109,16 +118,9 @@ def made(pairs):
     return plan
 
 
-def period(day, rhythm_name):
-    """What stays the same until a rhythm's next day."""
-    return {
-        "daily": (day,),
-        "weekly": tuple(day.isocalendar())[:2],
-        "monthly": (day.year, day.month),
-        "quarterly": (day.year, (day.month - 1) // 3),
-        "yearly": (day.year,),
-        "never": (),
-    }[rhythm_name]
+def starts(rhythm_name, before, date):
+    """Does a new period of the rhythm start between two trading days?"""
+    return PERIODS[rhythm_name](before) != PERIODS[rhythm_name](date)
 
 
 class Day:
@@ -130,14 +132,8 @@ class Day:
 
 def schedule(plan, dates):
     """The plan's days: regular payments on the first trading day of each later period, weights also on the first day."""
-    found, before = [], None
-    for date in dates:
-        def due(name):
-            return before is not None and period(date, name) != period(before, name)
-
-        deposit = (plan.first_deposit or plan.deposit[0]) if before is None else plan.deposit[0] if due(plan.deposit[1]) else 0.0
-        withdraw = plan.withdraw[0] if due(plan.withdraw[1]) else 0.0
-        rebalance = plan.rebalance != "never" and (before is None or due(plan.rebalance))
-        found.append(Day(date, deposit, withdraw, rebalance))
-        before = date
+    found = [Day(dates[0], plan.first_deposit or plan.deposit[0], 0.0, plan.rebalance != "never")]
+    for before, date in zip(dates, dates[1:]):
+        deposit, withdraw = (amount if starts(rhythm_name, before, date) else 0.0 for amount, rhythm_name in (plan.deposit, plan.withdraw))
+        found.append(Day(date, deposit, withdraw, starts(plan.rebalance, before, date)))
     return found

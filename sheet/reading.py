@@ -1,7 +1,8 @@
 """What the engine answered to a plan's scenario, day by day: the evening's figures, and what was refused."""
+from amounts import money, quantity
 from faults import Faults
+from scenario.floats import finite, number
 from scenario.meanings import MEANINGS
-from scenario.floats import number
 from scenario.words import read_order
 
 
@@ -39,10 +40,10 @@ class Answers:
 
     def next(self, verb):
         """The words of the next answer, which must be this call's."""
-        words = self.lines[self.at].split() if self.at < len(self.lines) else []
+        words = self.lines[self.at].split()
         self.at += 1
-        if words[1:2] != [verb] or words[2:3] == ["malformed"]:
-            raise Faults([f"the engine's answer to '{verb}' is '{' '.join(words)[:80]}'; the scenario and the answers are not of one run"])
+        if words[1] != verb:
+            raise Faults([f"the program's answer to '{verb}' is '{' '.join(words)[:80]}'; build it anew with tools/build.sh engine"])
         return words[2:]
 
 
@@ -53,13 +54,13 @@ def paid(answers, verb, amount, date, refusals):
     words = answers.next(verb)
     if words[0] == "done":
         return number(words[1])
-    refusals.append(Refusal(date, f"{verb} of {amount:,.2f}", None, words[1]))
+    refusals.append(Refusal(date, f"{verb} of {money(amount)}", None, words[1]))
     return 0.0
 
 
 def sides(order):
     kind, symbol, shares, _ = read_order(order)
-    return ("buy" if kind[1] == "b" else "sale") + f" of {shares:,.6g}", symbol
+    return f"{'buy' if kind[1] == 'b' else 'sale'} of {quantity(shares)}", symbol
 
 
 def events(words):
@@ -92,7 +93,10 @@ def figure(answers, verb, read):
     words = answers.next(verb)
     if words[0] == "refused":
         raise Faults([f"the engine refused '{verb}' with number {words[1]}: {MEANINGS[int(words[1])]}"])
-    return read(words[0])
+    found = read(words[0])
+    if not finite(found):
+        raise Faults([f"'{verb}' is answered by {found}: prices or amounts are too large for the engine's floats; write smaller ones"])
+    return found
 
 
 def evening(answers, day, names, refusals):
@@ -129,8 +133,8 @@ class Rehearsal:
         """What does not hold together in the run: the account's parts and its value, the trades shown and counted."""
         held, bids, last = self.by_symbol("held"), self.by_symbol("latest"), self.evenings[-1]
         added = last.cash
-        for symbol, quantity in held.items():
-            added += bids[symbol] * quantity
+        for symbol, shares in held.items():
+            added += bids[symbol] * shares
         if added != last.value:
             yield f"cash and holdings add up to {added!r}, and the value is {last.value!r}"
         if not int(self.state["trades"][0]) == len(self.state["trades"]) - 1 == last.trades:

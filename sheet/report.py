@@ -1,13 +1,14 @@
-"""The sheet: month ends, the account, the figures and what was refused, as text; every day and every refusal as CSV."""
+"""The sheet: month ends, the account, the figures and what was refused, as text; every day, the figures and every refusal as CSV."""
 import csv
 import io
 
 import figures
-from amounts import money
+from amounts import money, price, quantity
 
 SHOWN_REFUSALS = 12
 COSTS_NOTE = ("Costs act on the size of orders and on the values that a sale would leave, as in the engine's rules;\n"
               "they are not taken from cash, so the curve is the account's before costs are paid.")
+FAILED_NOTE = "The broker is Failed: a shortfall could not be raised, and no order is taken any more."
 
 
 def percent(part):
@@ -23,16 +24,20 @@ def net_paid(evenings):
     return found
 
 
-def months(rehearsal):
+def months(evenings):
     """Value and payments at each month end."""
     yield f"{'month end':<12}{'value':>16}{'paid in, net':>16}{'cash':>16}{'trades':>8}"
-    net = dict(zip((evening.date for evening in rehearsal.evenings), net_paid(rehearsal.evenings)))
-    for evening in figures.month_ends(rehearsal.evenings):
+    net = dict(zip((evening.date for evening in evenings), net_paid(evenings)))
+    for evening in figures.month_ends(evenings):
         yield f"{evening.date!s:<12}{money(evening.value):>16}{money(net[evening.date]):>16}{money(evening.cash):>16}{evening.trades:>8}"
 
 
 def basis_text(basis):
-    return "none" if basis is None else f"{basis:,.2f}"
+    return "none" if basis is None else money(basis)
+
+
+def share(part, whole):
+    return f"{part / whole:.1%}" if whole else ""
 
 
 def account(rehearsal):
@@ -40,36 +45,31 @@ def account(rehearsal):
     held, bids = rehearsal.by_symbol("held"), rehearsal.by_symbol("latest")
     bases, last = rehearsal.by_symbol("basis"), rehearsal.evenings[-1]
     wide = max([len(rehearsal.names[symbol]) for symbol in held] + [20]) + 2
-    yield f"{'holding':<{wide}}{'quantity':>14}{'bid':>12}{'value':>16}{'cost basis':>12}{'share':>8}"
-    for symbol, quantity in held.items():
-        value = bids[symbol] * quantity
-        yield (f"{rehearsal.names[symbol]:<{wide}}{quantity:>14,.6g}{bids[symbol]:>12,.4g}{money(value):>16}"
+    yield f"{'holding':<{wide}}{'quantity':>14}{'bid':>14}{'value':>16}{'cost basis':>12}{'share':>8}"
+    for symbol, shares in held.items():
+        value = bids[symbol] * shares
+        yield (f"{rehearsal.names[symbol]:<{wide}}{quantity(shares):>14}{price(bids[symbol]):>14}{money(value):>16}"
                f"{basis_text(bases.get(symbol)):>12}{share(value, last.value):>8}")
-    yield f"{'cash':<{wide + 26}}{money(last.cash):>16}{share(last.cash, last.value):>20}"
-
-
-def share(part, whole):
-    return f"{part / whole:.1%}" if whole else ""
+    yield f"{'cash':<{wide + 28}}{money(last.cash):>16}{share(last.cash, last.value):>20}"
 
 
 def fall_text(fall):
     return "none" if fall is None else f"{fall.part:.2%}, from {fall.since} to {fall.until}"
 
 
-def fact_lines(rehearsal, currency):
+def fact_lines(found, currency):
     """The figures of a fact sheet: (name, text)."""
-    evenings = rehearsal.evenings
-    yield "final value", f"{money(evenings[-1].value)} {currency} on {evenings[-1].date}"
-    yield "paid in", f"{money(figures.paid_in(evenings))} {currency}"
-    if figures.paid_out(evenings):
-        yield "paid out", f"{money(figures.paid_out(evenings))} {currency}"
-    yield "time-weighted return in all", percent(figures.time_weighted(evenings))
-    yield "time-weighted return a year", percent(figures.a_year(evenings))
-    yield "volatility a year", percent(figures.volatility(evenings))
-    yield "largest fall", fall_text(figures.largest_fall(evenings))
-    yield "turnover (sum of all trades)", f"{money(rehearsal.turnover)} {currency}"
-    yield "trades", f"{evenings[-1].trades:,}"
-    yield "refused", f"{len(rehearsal.refusals):,}"
+    yield "final value", f"{money(found.value)} {currency} on {found.date}"
+    yield "paid in", f"{money(found.paid_in)} {currency}"
+    if found.paid_out:
+        yield "paid out", f"{money(found.paid_out)} {currency}"
+    yield "time-weighted return in all", percent(found.in_all)
+    yield "time-weighted return a year", percent(found.a_year)
+    yield "volatility a year", percent(found.volatility)
+    yield "largest fall", fall_text(found.fall)
+    yield "turnover (sum of all trades)", f"{money(found.turnover)} {currency}"
+    yield "trades", f"{found.trades:,}"
+    yield "refused", f"{found.refused:,}"
 
 
 def refusal_text(refusal):
@@ -77,22 +77,22 @@ def refusal_text(refusal):
     return f"  {refusal.date}  {refusal.what}{security}: {refusal.reason} (number {refusal.number})"
 
 
-def refusals(rehearsal):
+def refusals(found):
     """The first refusals; all of them are in a file."""
-    for refusal in rehearsal.refusals[:SHOWN_REFUSALS]:
+    for refusal in found[:SHOWN_REFUSALS]:
         yield refusal_text(refusal)
-    if len(rehearsal.refusals) > SHOWN_REFUSALS:
-        yield f"  and {len(rehearsal.refusals) - SHOWN_REFUSALS:,} more (refused.csv)"
+    if len(found) > SHOWN_REFUSALS:
+        yield f"  and {len(found) - SHOWN_REFUSALS:,} more (refused.csv)"
 
 
-def sheet(plan, rehearsal, warnings):
+def sheet(plan, rehearsal, found, notes):
     """The sheet as text."""
-    first, last = rehearsal.evenings[0].date, rehearsal.evenings[-1].date
-    parts = [[plan.title, f"rehearsed on closing quotes from {first} to {last}, {len(rehearsal.evenings):,} trading days"],
-             [f"note: {warning}" for warning in warnings],
-             list(months(rehearsal)), list(account(rehearsal)),
-             [f"{name:<30}{text}" for name, text in fact_lines(rehearsal, plan.currency)], list(refusals(rehearsal)),
-             ["The broker is Failed: a shortfall could not be raised, and no order is taken any more."] if rehearsal.failed else [],
+    evenings = rehearsal.evenings
+    parts = [[plan.title, f"rehearsed on closing quotes from {evenings[0].date} to {found.date}, {len(evenings):,} trading days"],
+             [f"note: {note}" for note in notes],
+             list(months(evenings)), list(account(rehearsal)),
+             [f"{name:<30}{text}" for name, text in fact_lines(found, plan.currency)], list(refusals(rehearsal.refusals)),
+             [FAILED_NOTE] if rehearsal.failed else [],
              [COSTS_NOTE]]
     return "\n\n".join("\n".join(part) for part in parts if part) + "\n"
 
@@ -105,13 +105,27 @@ def csv_text(head, rows):
     return out.getvalue()
 
 
-def days_csv(rehearsal):
+def days_csv(evenings, index):
     """Every evening; floats with all their digits, so that nothing is lost."""
-    evenings = rehearsal.evenings
-    rows = ([e.date, repr(e.value), repr(e.cash), repr(e.deposit), repr(e.withdraw), e.trades, repr(level)] for e, level in zip(evenings, figures.index(evenings)))
+    rows = ([e.date, repr(e.value), repr(e.cash), repr(e.deposit), repr(e.withdraw), e.trades, repr(level)] for e, level in zip(evenings, index))
     return csv_text(["date", "value", "cash", "deposit", "withdraw", "trades", "index"], rows)
 
 
-def refused_csv(rehearsal):
-    rows = ([r.date, r.what, r.security or "", r.number, r.reason] for r in rehearsal.refusals)
+def part_text(part):
+    """A part of 1 for a table; nothing where there is none."""
+    return "" if part is None else f"{part:.6f}"
+
+
+def figures_csv(found):
+    """The figures as one row; returns, volatility and the fall are parts of 1."""
+    fall = found.fall or figures.Fall(0.0, "", "")
+    row = {"last day": found.date, "final value": f"{found.value:.2f}", "paid in": f"{found.paid_in:.2f}", "paid out": f"{found.paid_out:.2f}",
+           "return in all": part_text(found.in_all), "return a year": part_text(found.a_year), "volatility a year": part_text(found.volatility),
+           "largest fall": part_text(fall.part), "fall from": fall.since, "fall to": fall.until,
+           "turnover": f"{found.turnover:.2f}", "trades": found.trades, "refused": found.refused}
+    return csv_text(row, [row.values()])
+
+
+def refused_csv(found):
+    rows = ([r.date, r.what, r.security or "", r.number, r.reason] for r in found)
     return csv_text(["date", "what", "security", "number", "reason"], rows)

@@ -1,10 +1,11 @@
 """A fact sheet from closing quotes, weights and a plan.
 
 The scenario is kept, so that it can be read and run by hand: FOLDER/scenario.txt, its answers in answers.txt. The sheet is printed and
-kept in sheet.txt, every day in days.csv, every refusal in refused.csv, the picture in curve.svg.
+kept in sheet.txt, every day in days.csv, the figures in figures.csv, every refusal in refused.csv, the picture in curve.svg.
 """
 import argparse
 import os
+import signal
 import sys
 
 ROOT = os.path.dirname(os.path.dirname(os.path.abspath(__file__)))
@@ -13,6 +14,7 @@ sys.path.insert(0, os.path.join(ROOT, "tools"))
 
 import days
 import engine
+import figures
 import output
 import picture
 import plan
@@ -20,18 +22,25 @@ import prepared
 import quotes
 import report
 import weights
-from faults import Faults, refuse
+from faults import Faults
 from reading import Rehearsal
+
+
+def version():
+    with open(os.path.join(ROOT, "VERSION"), encoding="utf-8") as file:
+        return file.read().strip()
 
 
 def arguments(words):
     parser = argparse.ArgumentParser(prog="sheet.sh", description=__doc__, formatter_class=argparse.RawDescriptionHelpFormatter)
+    parser.add_argument("--version", action="version", version=version())
     parser.add_argument("--quotes", metavar="CSV", help="date, security, bid, ask; or quote lines")
     parser.add_argument("--prepared", metavar="FILE", help="quotes made ready, in place of --quotes")
     parser.add_argument("--prepare", metavar="FILE", help="make the quotes ready for the securities of all the weights given, and end")
     parser.add_argument("--weights", metavar="CSV", nargs="+", required=True, help="security, weight; several with --prepare")
     parser.add_argument("--plan", metavar="FILE", help="lines of name = value; the options below come after it")
     parser.add_argument("--to", metavar="FOLDER", default="rehearsal", help="where the sheet is written (default: rehearsal)")
+    parser.add_argument("--no-scenario", action="store_true", help="leave scenario.txt and answers.txt out")
     for name, (_, form) in plan.NAMES.items():
         parser.add_argument("--" + name.replace("_", "-"), metavar="VALUE", action="append" if name == "cost" else "store", help=form)
     found = parser.parse_args(words)
@@ -72,9 +81,10 @@ def quoted_in(by_day):
 def made_ready(found):
     """The texts of the days, the symbols, the mix, and what is to be said."""
     if found.prepared:
-        texts, symbols = prepared.read(found.prepared)
-        mix, said = mix_of(found.weights[0], symbols)
-        return texts, symbols, mix, said
+        texts, numbers = prepared.read(found.prepared)
+        mix, said = mix_of(found.weights[0], numbers)
+        symbols = days.numbers(mix)
+        return prepared.of_mix(texts, numbers, symbols), symbols, mix, said
     by_day = quotes.read(found.quotes)
     mix, said = mix_of(found.weights[0], quoted_in(by_day))
     symbols = days.numbers(mix)
@@ -93,43 +103,75 @@ def prepare(found):
     """Writes the quotes of every security that one of the mixes names."""
     by_day = quotes.read(found.quotes)
     quoted = quoted_in(by_day)
-    named = set().union(*(securities(path, quoted) for path in found.weights))
-    refuse(weights.room_faults("the mixes together", named))
-    symbols = days.numbers(named)
+    symbols = days.numbers(set().union(*(securities(path, quoted) for path in found.weights)))
+    for note in quotes.crossed(found.quotes, by_day):
+        print(f"note: {note}", file=sys.stderr)
     folder, name = os.path.split(os.path.abspath(found.prepare))
     output.write(folder, {name: prepared.text(days.tables(by_day, symbols), symbols)})
 
 
+def rehearsed(program, scenario, schedule, symbols, large):
+    """The answers of a run, as lines and as a rehearsal."""
+    answers = engine.run(program, scenario, large, days.answer_count(schedule))
+    try:
+        rehearsal = Rehearsal(answers, schedule, symbols)
+        wrong = list(rehearsal.disagreements())
+    except (ValueError, LookupError):
+        wrong = ["they are not of the form of docs/SCENARIOS.md"]
+    if wrong:
+        raise Faults([f"{program}: its answers are wrong, {fault}; build it anew with tools/build.sh engine" for fault in wrong])
+    return answers, rehearsal
+
+
 def rehearse(found, program):
-    """One sheet: reads, makes the scenario, runs it, writes the files; answers the text of the sheet."""
+    """One sheet: reads, makes the scenario, runs it and writes the files; answers their texts by name."""
     chosen = plan.made([*(plan.read(found.plan) if found.plan else []), *from_options(found)])
     texts, symbols, mix, said = made_ready(found)
     schedule = plan.schedule(chosen, [day for day, _ in texts])
     scenario = "\n".join(days.scenario(chosen, schedule, [text for _, text in texts], symbols, mix)) + "\n"
-    log = days.log_rows(sum(day.rebalance for day in schedule), len(mix))
-    answers = engine.run(program, scenario, log > days.LOG, engine.Progress("rehearsing", days.answer_count(schedule)))
-    rehearsal = Rehearsal(answers, schedule, symbols)
-    refuse(list(rehearsal.disagreements()))
-    text = report.sheet(chosen, rehearsal, said)
-    drawn = picture.drawn(chosen.title, chosen.currency, rehearsal.evenings, report.net_paid(rehearsal.evenings))
-    output.write(found.to, {"scenario.txt": scenario, "answers.txt": "\n".join(answers) + "\n", "sheet.txt": text, "days.csv": report.days_csv(rehearsal),
-                            "refused.csv": report.refused_csv(rehearsal), "curve.svg": drawn})
-    return text
+    large = days.log_rows(schedule, len(mix)) > days.LOG
+    answers, rehearsal = rehearsed(program, scenario, schedule, symbols, large)
+    facts = figures.Figures(rehearsal.evenings, rehearsal.turnover, len(rehearsal.refusals))
+    files = {"sheet.txt": report.sheet(chosen, rehearsal, facts, said),
+             "curve.svg": picture.drawn(chosen.title, chosen.currency, rehearsal.evenings, report.net_paid(rehearsal.evenings)),
+             "days.csv": report.days_csv(rehearsal.evenings, facts.index), "figures.csv": report.figures_csv(facts),
+             "refused.csv": report.refused_csv(rehearsal.refusals)}
+    if not found.no_scenario:
+        files.update({"scenario.txt": scenario, "answers.txt": "\n".join(answers) + "\n"})
+    output.write(found.to, files)
+    return files
+
+
+def stopped(*_):
+    raise KeyboardInterrupt
+
+
+def told(text):
+    """Prints; a reader that has gone has seen enough, and one that can't take it is a fault."""
+    try:
+        print(text, flush=True)
+    except OSError as error:
+        # What is still in the buffer has nowhere to go.
+        os.dup2(os.open(os.devnull, os.O_WRONLY), sys.stdout.fileno())
+        if not isinstance(error, BrokenPipeError):
+            sys.exit(f"standard output can't be written ({error.strerror}); the files were")
 
 
 def main(words):
+    signal.signal(signal.SIGTERM, stopped)
+    sys.stdout.reconfigure(errors="replace")
     found = arguments(words)
-    program = os.environ.get("REHEARSE", os.path.join(ROOT, "target", "bin", "rehearse"))
+    program = os.environ.get("REHEARSE") or os.path.join(ROOT, "target", "bin", "rehearse")
     try:
         if found.prepare:
             prepare(found)
         else:
-            print(rehearse(found, program), end="")
-            print(f"\nwritten to {found.to}: sheet.txt, curve.svg, days.csv, refused.csv, scenario.txt, answers.txt")
+            files = rehearse(found, program)
+            told(f"{files['sheet.txt']}\nwritten to {found.to}: {', '.join(files)}")
     except Faults as faults:
         sys.exit(f"{faults}\n{len(faults.sentences)} to correct; nothing was written")
     except KeyboardInterrupt:
-        sys.exit("stopped; nothing was written")
+        sys.exit("stopped")
 
 
 if __name__ == "__main__":

@@ -1,19 +1,25 @@
 """CSV files as people have them: rows with their line numbers, by the names of a header or by place."""
 import csv
+import io
 
 from faults import Faults, at, of_file
 
 
-def text_of(path):
-    """A file's text: UTF-8, with a byte order mark or not."""
+def bytes_of(path):
     try:
-        with open(path, encoding="utf-8-sig", newline="") as file:
+        with open(path, "rb") as file:
             return file.read()
     except OSError as error:
         raise Faults([of_file(path, f"can't be read ({error.strerror})", "check the name and the rights")])
+
+
+def text_of(path):
+    """A file's text: UTF-8, with a byte order mark or not."""
+    content = bytes_of(path)
+    try:
+        return content.decode("utf-8-sig")
     except UnicodeDecodeError as error:
-        line = error.object[: error.start].count(b"\n") + 1
-        raise Faults([at(path, line, "is not UTF-8 text", "save the file as CSV in UTF-8")])
+        raise Faults([at(path, content[: error.start].count(b"\n") + 1, "is not UTF-8 text", "save the file as text in UTF-8")])
 
 
 def delimiter(first):
@@ -23,7 +29,7 @@ def delimiter(first):
 
 def places(head, columns):
     """The place of each column by a header, or None where the first line is none."""
-    names = [cell.strip().lower() for cell in head]
+    names = [cell.lower() for cell in head]
     if not any(name in columns for name in names):
         return None
     return [names.index(column) if column in names else None for column in columns]
@@ -36,22 +42,31 @@ def missing(path, columns, found):
                          f"name the columns {', '.join(columns)}")])
 
 
-def rows(path, columns):
-    """The rows of a file as (line, cells in the order of `columns`); blank lines are passed over, short rows have None for cells."""
+def cells_of(path):
+    """The lines of a file that are not blank: (number of the first line, stripped cells); a cell in quotation marks may have several lines."""
     text = text_of(path)
-    reader = csv.reader(text.splitlines(keepends=True), delimiter=delimiter(text.partition("\n")[0]))
+    reader, line = csv.reader(io.StringIO(text, newline=""), delimiter=delimiter(text.partition("\n")[0])), 1
+    try:
+        for row in reader:
+            cells = [cell.strip() for cell in row]
+            if any(cells):
+                yield line, cells
+            line = reader.line_num + 1
+    except csv.Error as error:
+        raise Faults([at(path, line, f"is no line of a CSV ({error})", "look for a quotation mark that is not closed")])
+
+
+def rows(path, columns):
+    """The rows of a file as (line, cells in the order of `columns`); short rows have None for cells."""
     found, order = [], None
-    for cells in reader:
-        if not any(cell.strip() for cell in cells):
-            continue
+    for line, cells in cells_of(path):
         if order is None:
             order = places(cells, columns)
             if order is not None:
                 missing(path, columns, order)
                 continue
             order = list(range(len(columns)))
-        whole = len(cells) > max(order)
-        found.append((reader.line_num, [cells[place].strip() for place in order] if whole else None))
+        found.append((line, [cells[place] for place in order] if len(cells) > max(order) else None))
     if not found:
         raise Faults([of_file(path, "has no rows", f"give one line each with {', '.join(columns)}")])
     return found

@@ -35,15 +35,12 @@ def read(path):
     return found, lines
 
 
-def room_faults(who, securities):
-    return [of_file(who, f"names {len(securities)} securities", f"the engine has room for {ROOM}: take some out")] if len(securities) > ROOM else []
-
-
 def check(path, weights, lines, quoted):
     """Refuses weights that the quotes can't serve."""
     faults = [at(path, lines[security], f"'{security}' has no quote in any line of the quotes", "correct the name, or add its quotes")
               for security in weights if security not in quoted]
-    faults.extend(room_faults(path, weights))
+    if len(weights) > ROOM:
+        faults.append(of_file(path, f"names {len(weights)} securities", f"the engine has room for {ROOM}: take some out"))
     if not any(weights.values()):
         faults.append(of_file(path, "has no weight above zero", "give at least one"))
     refuse(faults)

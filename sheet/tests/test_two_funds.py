@@ -1,4 +1,4 @@
-"""The plan of examples/two-funds, worked out by hand from document 01 with a pocket calculator, to the cent.
+"""The plan of examples/two-funds, worked out by hand from document 01, to the cent.
 
 25 Jan: 10,000 is paid in. 35 % is 3,500, less the flat 1: 3,499 at 50.05 buys 69 of the bond fund; 60 % is 6,000, less 1: 5,999 at
     100.10 buys 59 of the equity fund. 26 Jan books the orders.
@@ -8,6 +8,8 @@
     buys 2. 60 % is 6,144.84; 398.24 are missing, less 1: 397.24 at 97.60 buys 4.
 3 Feb: they trade. 2 x 50.25 = 100.50 and 4 x 100.10 = 400.40; cash is 1,026.10 - 500.90 = 525.20.
 """
+import csv
+import io
 import math
 import os
 import statistics
@@ -16,9 +18,7 @@ import unittest
 from fractions import Fraction
 
 import places
-import figures
 import sheet
-from joined import evening, rows
 
 # The evenings' values: cash, then bond fund and equity fund at their bids.
 VALUES = [
@@ -40,57 +40,93 @@ LATER = ["10000.00", "9981.30", "9932.65", "9825.00", "9743.40", "10298.95", "10
 RETURNS = [Fraction(after) / Fraction(before) - 1 for before, after in zip(VALUES, LATER)]
 
 
+RECORDED = "# A plan over ten days in two funds"
+
+
 def words(folder):
     return ["--quotes", os.path.join(places.TWO_FUNDS, "quotes.csv"), "--weights", os.path.join(places.TWO_FUNDS, "weights.csv"),
             "--plan", os.path.join(places.TWO_FUNDS, "plan.txt"), "--to", folder]
 
 
+def rows(text):
+    return list(csv.DictReader(io.StringIO(text)))
+
+
+def lines_of(*parts):
+    with open(os.path.join(places.ROOT, *parts), encoding="utf-8") as file:
+        return file.read().splitlines()
+
+
+def recorded_block():
+    """The plan's lines of crates/rehearse/stdin, and the number of the first one."""
+    given = lines_of("crates", "rehearse", "stdin")
+    first = next(at for at, line in enumerate(given) if line.startswith(RECORDED)) + 1
+    return given[first:given.index("state", first) + 1], first + 1
+
+
+def without_numbers(answers):
+    """Answers and states but for the numbers of the answered lines."""
+    return [line if line.startswith(" ") else line.partition(" ")[2] for line in answers]
+
+
 class TwoFunds(unittest.TestCase):
     @classmethod
     def setUpClass(cls):
-        cls.folder = tempfile.TemporaryDirectory()
-        cls.text = sheet.rehearse(sheet.arguments(words(cls.folder.name)), places.PROGRAM)
-        cls.evenings = [evening(row) for row in rows(os.path.join(cls.folder.name, "days.csv"))]
-
-    @classmethod
-    def tearDownClass(cls):
-        cls.folder.cleanup()
-
-    def near(self, figure, exact):
-        self.assertAlmostEqual(figure, float(exact), places=12)
+        holder = tempfile.TemporaryDirectory()
+        cls.addClassCleanup(holder.cleanup)
+        cls.folder = holder.name
+        cls.files = sheet.rehearse(sheet.arguments(words(cls.folder)), places.PROGRAM)
+        cls.text, cls.days = cls.files["sheet.txt"], rows(cls.files["days.csv"])
+        cls.figures = rows(cls.files["figures.csv"])[0]
 
     def test_every_evening(self):
-        self.assertEqual([f"{e.value:.2f}" for e in self.evenings], VALUES)
-        self.assertEqual([f"{e.cash:.2f}" for e in self.evenings], CASH)
-        self.assertEqual([e.trades for e in self.evenings], TRADES)
+        self.assertEqual([f"{float(day['value']):.2f}" for day in self.days], VALUES)
+        self.assertEqual([f"{float(day['cash']):.2f}" for day in self.days], CASH)
+        self.assertEqual([int(day["trades"]) for day in self.days], TRADES)
 
     def test_return_in_all(self):
-        self.near(figures.time_weighted(self.evenings), math.prod(1 + r for r in RETURNS) - 1)
+        exact = math.prod(1 + rate for rate in RETURNS)
+        self.assertAlmostEqual(float(self.days[-1]["index"]), float(exact), places=12)
+        self.assertEqual(self.figures["return in all"], f"{float(exact - 1):.6f}")
         self.assertIn("time-weighted return in all   0.46%", self.text)
 
     def test_no_year(self):
-        self.assertIsNone(figures.a_year(self.evenings))
+        self.assertEqual(self.figures["return a year"], "")
+        self.assertIn("time-weighted return a year   none", self.text)
 
     def test_volatility(self):
-        self.near(figures.volatility(self.evenings), statistics.stdev(map(float, RETURNS)) * math.sqrt(252))
+        exact = statistics.stdev(map(float, RETURNS)) * math.sqrt(252)
+        self.assertEqual(self.figures["volatility a year"], f"{exact:.6f}")
+        self.assertIn(f"volatility a year             {exact:.2%}", self.text)
 
     def test_largest_fall(self):
         # From the 1 of 25 January to 0.97434 on 1 February: 9,743.40 of 10,000.
-        fall = figures.largest_fall(self.evenings)
-        self.near(fall.part, Fraction("0.02566"))
-        self.assertEqual((str(fall.since), str(fall.until)), ("2021-01-25", "2021-02-01"))
+        self.assertEqual([self.figures[name] for name in ("largest fall", "fall from", "fall to")], ["0.025660", "2021-01-25", "2021-02-01"])
+        self.assertIn("2.57%, from 2021-01-25 to 2021-02-01", self.text)
 
     def test_the_sheet(self):
         # Turnover: 9,473.90 + 500.90. Cost basis of the bond fund: 3,550.50 / 71; of the equity fund: 6,424.30 / 63.
         for said in ("10,561.45 euros on 2021-02-05", "10,500.00 euros", "9,974.80 euros", "50.01", "101.97", "not taken from cash"):
             self.assertIn(said, self.text)
+        self.assertEqual([self.figures[name] for name in ("final value", "paid in", "paid out", "turnover", "trades", "refused")],
+                         ["10561.45", "10500.00", "0.00", "9974.80", "4", "0"])
 
     def test_written(self):
-        self.assertEqual(sorted(os.listdir(self.folder.name)), ["answers.txt", "curve.svg", "days.csv", "refused.csv", "scenario.txt", "sheet.txt"])
-        with open(os.path.join(self.folder.name, "curve.svg"), encoding="utf-8") as file:
-            picture = file.read()
-        self.assertIn("Two funds, ten days", picture)
-        self.assertNotIn("ten securities", picture)
+        self.assertEqual(sorted(os.listdir(self.folder)), sorted(self.files))
+        for name, text in self.files.items():
+            self.assertEqual(lines_of(self.folder, name), text.splitlines())
+        self.assertIn("Two funds, ten days", self.files["curve.svg"])
+
+    def test_the_scenario_is_the_recorded_one(self):
+        made = [line for line in self.files["scenario.txt"].splitlines() if not line.startswith("#")]
+        self.assertEqual(made, recorded_block()[0])
+
+    def test_the_answers_are_the_recorded_ones(self):
+        (block, first), recorded = recorded_block(), lines_of("crates", "rehearse", "stdout")
+        start = next(at for at, line in enumerate(recorded) if line.startswith(f"{first} "))
+        answers = self.files["answers.txt"].splitlines()
+        self.assertEqual(without_numbers(answers), without_numbers(recorded[start:start + len(answers)]))
+        self.assertEqual(sum(not line.startswith(" ") for line in answers), len(block))
 
 
 if __name__ == "__main__":
