@@ -146,7 +146,7 @@ def stopped(*_):
     raise KeyboardInterrupt
 
 
-def told(text):
+def tell(text, folder):
     """Prints; a reader that has gone has seen enough, and one that can't take it is a fault."""
     try:
         print(text, flush=True)
@@ -154,7 +154,7 @@ def told(text):
         # What is still in the buffer has nowhere to go.
         os.dup2(os.open(os.devnull, os.O_WRONLY), sys.stdout.fileno())
         if not isinstance(error, BrokenPipeError):
-            sys.exit(f"standard output can't be written ({error.strerror}); the files were")
+            sys.exit(f"standard output can't be written ({error.strerror}); the sheet is in {folder}")
 
 
 def main(words):
@@ -167,7 +167,7 @@ def main(words):
             prepare(found)
         else:
             files = rehearse(found, program)
-            told(f"{files['sheet.txt']}\nwritten to {found.to}: {', '.join(files)}")
+            tell(f"{files['sheet.txt']}\nwritten to {found.to}: {', '.join(files)}", found.to)
     except Faults as faults:
         sys.exit(f"{faults}\n{len(faults.sentences)} to correct; nothing was written")
     except KeyboardInterrupt:

@@ -124,7 +124,7 @@ class Runs(places.Folder):
         with open("/dev/full", "w", encoding="utf-8") as full:
             status, _, told = self.run_it(self.words(), stdout=full)
         self.assertEqual(status, 1)
-        self.assertIn("standard output can't be written (No space left on device)", told)
+        self.assertIn(f"standard output can't be written (No space left on device); the sheet is in {self.to}", told)
 
     def test_stopped(self):
         for sent in (signal.SIGINT, signal.SIGTERM):

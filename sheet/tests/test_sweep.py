@@ -78,9 +78,11 @@ class Sweep(places.Folder):
         while not os.path.exists(log) or len(text_of(log).splitlines()) < 4:
             time.sleep(0.01)
         os.kill(process.pid, signal.SIGINT)
-        self.assertIn("stopped", process.communicate(timeout=60)[1])
-        self.assertFalse(os.path.exists(os.path.join(self.folder, "parts", "mixes.csv")))
+        process.wait(timeout=60)
         self.assertEqual(self.left(), [])
+        self.assertIn("stopped", process.communicate()[1])
+        self.assertLess(len(text_of(log).splitlines()), 25)
+        self.assertFalse(os.path.exists(os.path.join(self.folder, "parts", "mixes.csv")))
         self.assertEqual(self.swept(self.command("parts", mixes))[1:], ("", 0))
         self.assertEqual(self.joined("parts"), self.joined("whole"))
         self.assertEqual(len(self.joined("whole")[0].splitlines()), 25)
