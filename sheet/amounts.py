@@ -1,5 +1,6 @@
 """Decimal amounts and ISO dates, as they stand in a file."""
 import datetime
+import functools
 import re
 
 DECIMAL = re.compile(r"[+-]?(\d+(\.\d*)?|\.\d+)\Z")
@@ -14,8 +15,9 @@ def decimal(word):
     return found if abs(found) < float("inf") else None
 
 
+@functools.lru_cache(maxsize=None)
 def date(word):
-    """A date of the calendar, or None."""
+    """A date of the calendar, or None. A day comes once for each security, and is worked out once."""
     parts = DATE.match(word)
     return None if parts is None else calendar(*map(int, parts.groups()))
 

@@ -2,34 +2,13 @@
 import resource
 import signal
 import subprocess
-import sys
 import threading
 
 from faults import Faults
+from progress import Progress
 
 # The stack that `large` needs, in bytes.
 LARGE_STACK = 100000 * 1024
-
-
-class Progress:
-    """A line on a terminal that says how far a run is; nothing in a pipe."""
-
-    def __init__(self, name, total, stream=sys.stderr):
-        self.name, self.total, self.stream, self.shown = name, total, stream, -1
-        self.live = stream.isatty()
-
-    def at(self, done):
-        part = min(done * 100 // self.total, 100) if self.live else -1
-        if part != self.shown:
-            self.shown = part
-            self.stream.write(f"\r{self.name}: {part} %")
-            self.stream.flush()
-
-    def over(self):
-        """The line goes."""
-        if self.shown >= 0:
-            self.stream.write("\r\033[K")
-            self.stream.flush()
 
 
 def raise_stack():

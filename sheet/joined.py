@@ -8,9 +8,9 @@ import io
 import os
 import sys
 
+import compared
 import mixes
 import output
-import picture
 import report
 from faults import Faults
 from table import text_of
@@ -31,7 +31,7 @@ def why(mix):
 def drawn(made):
     """The picture: return a year, or in all where some mix has none for a year."""
     rate = "return a year" if all(found["return a year"] for found in made.values()) else "return in all"
-    return picture.compared([picture.Point(name, float(found["volatility a year"] or 0), float(found[rate])) for name, found in made.items()], rate)
+    return compared.drawn([compared.Point(name, float(found["volatility a year"] or 0), float(found[rate])) for name, found in made.items()], rate)
 
 
 def joined(folder):

@@ -1,7 +1,9 @@
 """Closing quotes from a vendor's CSV (date, security, bid, ask), or from quote lines: symbol, date and the bits of bid and ask."""
+import math
 import re
 
 import amounts
+import progress
 import table
 from faults import at, refuse
 from scenario.floats import number
@@ -19,10 +21,18 @@ class Quote:
         self.line, self.day, self.security, self.bid, self.ask = line, day, security, bid, ask
 
 
+def is_price(price):
+    return price is not None and 0.0 < price < math.inf
+
+
+def is_name(security):
+    return security != "" and security.isprintable()
+
+
 def price_fault(path, line, name, word, price):
     if price is None:
         return at(path, line, f"the {name} '{word}' is not a decimal number", "write it as 12.34, with a point")
-    if not 0.0 < price < float("inf"):
+    if not is_price(price):
         return at(path, line, f"the {name} {word} is not above zero", "correct the price or take the line out")
     return None
 
@@ -32,7 +42,7 @@ def row_faults(path, quote, words):
     day, security, bid, ask = words
     if quote.day is None:
         yield at(path, quote.line, f"'{day}' is not a date", "write it as 2021-12-31")
-    if not security or not security.isprintable():
+    if not is_name(security):
         yield at(path, quote.line, "the security has no name of printable characters", "name the security or take the line out")
     for name, word, price in (("bid", bid, quote.bid), ("ask", ask, quote.ask)):
         fault = price_fault(path, quote.line, name, word, price)
@@ -40,16 +50,21 @@ def row_faults(path, quote, words):
             yield fault
 
 
+def if_good(path, quote, cells, faults):
+    """The quote; nothing, and its faults, where it is bad."""
+    if quote.day is not None and is_name(quote.security) and is_price(quote.bid) and is_price(quote.ask):
+        return quote
+    faults.extend(row_faults(path, quote, cells))
+    return None
+
+
 def from_cells(path, line, cells, faults):
-    """A row of the CSV; nothing, and its faults, where it is bad."""
+    """A row of the CSV."""
     if cells is None:
         faults.append(at(path, line, "has fewer than four cells", "give date, security, bid, ask"))
         return None
     day, security, bid, ask = cells
-    found = Quote(line, amounts.date(day), security, amounts.decimal(bid), amounts.decimal(ask))
-    wrong = list(row_faults(path, found, cells))
-    faults.extend(wrong)
-    return None if wrong else found
+    return if_good(path, Quote(line, amounts.date(day), security, amounts.decimal(bid), amounts.decimal(ask)), cells, faults)
 
 
 def from_line(path, line, words, faults):
@@ -61,20 +76,18 @@ def from_line(path, line, words, faults):
     symbol, day, bid, ask = parts.groups()
     digits = int(day)
     date = amounts.calendar(digits // 10000, digits // 100 % 100, digits % 100) if digits > 0 else None
-    found = Quote(line, date, symbol, number(bid), number(ask))
-    wrong = list(row_faults(path, found, (day, symbol, bid, ask)))
-    faults.extend(wrong)
-    return None if wrong else found
+    return if_good(path, Quote(line, date, symbol, number(bid), number(ask)), (day, symbol, bid, ask), faults)
 
 
 def all_rows(path, faults):
     """Every row of a file that is good by itself."""
     text = table.text_of(path)
     if QUOTE_LINE.match(text.partition("\n")[0].rstrip("\r")):
-        read = [from_line(path, line, words, faults) for line, words in enumerate(text.splitlines(), 1)]
+        form, rows = from_line, list(enumerate(text.splitlines(), 1))
     else:
-        read = [from_cells(path, line, cells, faults) for line, cells in table.rows(path, COLUMNS)]
-    return [row for row in read if row is not None]
+        form, rows = from_cells, table.rows(path, COLUMNS)
+    read = (form(path, line, row, faults) for line, row in progress.told("reading the quotes", rows))
+    return [quote for quote in read if quote is not None]
 
 
 def by_day(path, rows, faults):

@@ -27,19 +27,15 @@ def delimiter(first):
     return ";" if ";" in first and "," not in first else ","
 
 
-def places(head, columns):
-    """The place of each column by a header, or None where the first line is none."""
+def places(path, columns, line, head):
+    """The place of each column by a header, which names all of them; None where the first line is no header."""
     names = [cell.lower() for cell in head]
-    if not any(name in columns for name in names):
+    absent = [column for column in columns if column not in names]
+    if len(absent) == len(columns):
         return None
-    return [names.index(column) if column in names else None for column in columns]
-
-
-def missing(path, columns, found):
-    absent = [column for column, place in zip(columns, found) if place is None]
     if absent:
-        raise Faults([at(path, 1, f"the header has no column {' and no column '.join(absent)}",
-                         f"name the columns {', '.join(columns)}")])
+        raise Faults([at(path, line, f"the header has no column {' and no column '.join(absent)}", f"name the columns {', '.join(columns)}")])
+    return [names.index(column) for column in columns]
 
 
 def cells_of(path):
@@ -58,15 +54,11 @@ def cells_of(path):
 
 def rows(path, columns):
     """The rows of a file as (line, cells in the order of `columns`); short rows have None for cells."""
-    found, order = [], None
-    for line, cells in cells_of(path):
-        if order is None:
-            order = places(cells, columns)
-            if order is not None:
-                missing(path, columns, order)
-                continue
-            order = list(range(len(columns)))
-        found.append((line, [cells[place] for place in order] if len(cells) > max(order) else None))
+    lines = list(cells_of(path))
+    named = places(path, columns, *lines[0]) if lines else None
+    order = named or list(range(len(columns)))
+    last = max(order)
+    found = [(line, [cells[place] for place in order] if len(cells) > last else None) for line, cells in lines[1 if named else 0:]]
     if not found:
         raise Faults([of_file(path, "has no rows", f"give one line each with {', '.join(columns)}")])
     return found

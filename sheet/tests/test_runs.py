@@ -1,6 +1,7 @@
 """The command as a process: programs that fail, places that can't be written and readers that go are told in a sentence, with no
 traceback, and nothing is written half."""
 import os
+import pty
 import resource
 import signal
 import subprocess
@@ -59,6 +60,17 @@ class Runs(places.Folder):
         status, out, said = self.run_it(self.words())
         self.assertEqual((status, said), (0, ""))
         self.assertIn(f"written to {self.to}", out)
+
+    def test_progress_on_a_terminal(self):
+        ours, theirs = pty.openpty()
+        process = subprocess.Popen([sys.executable, "-B", SHEET, *self.words()], stdout=subprocess.DEVNULL, stderr=theirs,
+                                   env={**os.environ, "REHEARSE": places.PROGRAM})
+        self.assertEqual(process.wait(timeout=60), 0)
+        said = os.read(ours, 10000).decode()
+        os.close(ours)
+        os.close(theirs)
+        self.assertIn("\rreading the quotes: 50 %", said)
+        self.assertIn("\rrehearsing: 100 %\r\033[K", said)
 
     def test_version_and_help(self):
         with open(os.path.join(places.ROOT, "VERSION"), encoding="utf-8") as file:
