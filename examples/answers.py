@@ -1,11 +1,4 @@
 """A scenario's calls and the answers of a run, taken apart."""
-import os
-import sys
-
-# tools/ has the shared package.
-sys.path.insert(0, os.path.join(os.path.dirname(os.path.dirname(os.path.abspath(__file__))), "tools"))
-
-from scenario.floats import number
 
 
 def money(x):
@@ -27,18 +20,10 @@ class Answer:
         self.at, self.call, self.words = at, call, words
         self.holds = {}
 
-    def pairs(self, name):
-        """A line such as `held 3:FLOAT 4:none`, by symbol; none stands for no number."""
-        found = {}
-        for word in self.holds[name]:
-            symbol, value = word.split(":")[:2]
-            found[int(symbol)] = None if value == "none" else number(value)
-        return found
-
-    def field(self, name):
-        """A figure of the line that begins with `cash`."""
-        words = ["cash"] + self.holds["cash"]
-        return words[words.index(name) + 1]
+    def state(self):
+        """Ready or Failed; nothing where what the broker holds was not written."""
+        words = self.holds.get("cash", [])
+        return words[words.index("state") + 1] if words else None
 
 
 def answered(text):

@@ -19,7 +19,7 @@ def expectations(scenario):
             same = rest == "nothing changed"
         elif line.startswith("#"):
             said = said + [line[1:].strip()] if line[1:].strip() else []
-        elif line:
+        elif line.split():
             found[at] = (said, begins, same)
             said, begins, same = [], "", False
     return found
@@ -31,20 +31,23 @@ def held(answer):
 
 
 def explain(call, answer, before, expected):
-    """Print one call; answer whether it went as expected."""
+    """Print one call; answer whether it went as expected. `before` is the last answer with what the broker held, if there was one."""
     (at, (name, *rest)), (said, begins, same) = call, expected
     if said:
         print("\n" + "\n".join(said))
-    if answer is None or answer.call != name:
+    if answer is None or answer.call not in (name, "malformed"):
         print(f"  line {at}: {name} is not answered")
         return False
-    became_failed = before and before.field("state") == "Ready" and answer.field("state") == "Failed"
-    unchanged = before is not None and held(before) == held(answer)
+    if answer.call == "malformed":
+        print(f"  line {at:>2}: {name}\n           {' '.join(['Malformed', *answer.words])}.")
+        return begins.startswith("malformed")
+    became_failed = before is not None and (before.state(), answer.state()) == ("Ready", "Failed")
+    unchanged = before is not None and answer.holds != {} and held(before) == held(answer)
     print(f"  line {at:>2}: {meanings.asked(name, rest)}")
     print(f"           {meanings.answered(name, answer.words)}."
           + (" Nothing changed." if same and unchanged else "")
           + (" The shortfall cannot be raised: the broker is Failed from here on." if became_failed else ""))
-    for line in meanings.event_lines(name, answer.words):
+    for line in meanings.row_lines(name, answer.words):
         print(f"             {line}")
     right = " ".join(answer.words).startswith(begins) and (unchanged or not same)
     if not right:
@@ -59,7 +62,7 @@ def main(scenario_path, answers_path):
     for call in calls(scenario):
         answer = answers.get(call[0])
         wrong += not explain(call, answer, before, expected[call[0]])
-        before = answer or before
+        before = answer if answer and answer.holds else before
     print(f"\n{len(expected)} answers, {wrong} not as expected")
     sys.exit(1 if wrong or len(answers) != len(expected) else 0)
 

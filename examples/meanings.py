@@ -1,4 +1,11 @@
 """The calls of a scenario and their answers in plain English."""
+import os
+import re
+import sys
+
+# tools/ has the shared package.
+sys.path.insert(0, os.path.join(os.path.dirname(os.path.dirname(os.path.abspath(__file__))), "tools"))
+
 from answers import money
 from scenario.floats import number
 from scenario.meanings import MEANINGS
@@ -40,6 +47,8 @@ def asked(name, rest):
         return f"{name} a {order(rest[0])}"
     if name == "send_list":
         return f"send {len(rest) - 1} orders"
+    if name == "walk":
+        return f"orders for {mix(rest[1:])}, listed and not sent"
     return name.replace("get_", "read the ").replace("_", " ")
 
 
@@ -50,14 +59,25 @@ def refused(drawn):
 def event(word):
     """An order's event: taken, or its number in words."""
     drawn, _, rest = word.partition(":")
-    return f"{order(rest)}: {'taken' if drawn == 'taken' else refused(drawn).lower()}"
+    return f"{order(rest)}: {'taken' if drawn == 'taken' else f'refused with number {drawn}, {MEANINGS[int(drawn)]}'}"
 
 
-def event_lines(name, words):
-    """The events of an update or of a list of orders, one a line; none for other calls and refused ones."""
-    if words[0] == "refused" or name not in ("update", "send_list"):
+OTHER_READS = ("cost_basis", "turnover", "executed_trade_count", "trade_impact_total", "calculate_trade_costs", "floor", "ceil")
+# Calls that answer rows: the first of these words, and how one is told.
+ROWS = {"update": (3, event), "send_list": (1, event), "walk": (1, order)}
+
+
+def row_lines(name, words):
+    """The events of an update or of a list of orders, and the orders of a walk, one a line."""
+    if words[0] == "refused" or name not in ROWS:
         return []
-    return [event(word) for word in words[3 if name == "update" else 1:]]
+    first, told = ROWS[name]
+    return [told(word) for word in words[first:]]
+
+
+def figure(word):
+    """A FLOAT as an amount; other words as they are."""
+    return money(number(word)) if re.fullmatch("[0-9a-f]{16}", word) else word
 
 
 def answered(name, words):
@@ -73,6 +93,8 @@ def answered(name, words):
         return f"Done: the account's value is {money(number(words[1]))}, and {words[2]} orders were sent"
     if name == "send_list":
         return f"Done: {words[0]} orders were sent"
-    if name == "get_cash_balance":
-        return f"It is {money(number(words[0]))}"
-    return f"It is {words[0]}" if name.startswith("get_") else words[0].capitalize()
+    if name == "walk":
+        return f"Done: {words[0]} orders are listed"
+    if name in OTHER_READS or name.startswith("get_"):
+        return f"It is {' '.join(map(figure, words))}"
+    return words[0].capitalize()
