@@ -31,7 +31,8 @@ def tables(days, symbols):
 
 
 def log_rows(schedule, securities):
-    """A log that the orders of all rebalancings fit in twice, if the program has one: sales for a shortfall of cash come beside them."""
+    """A log that the orders of all rebalancings fit in twice, if the program has one: sales for a shortfall of cash come
+    beside them."""
     return LOG if 2 * sum(day.rebalance for day in schedule) * securities <= LOG else LARGE_LOG
 
 

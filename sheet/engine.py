@@ -21,8 +21,8 @@ def raise_stack():
 def start(program, large):
     command = [program] + (["large"] if large else [])
     try:
-        return subprocess.Popen(command, stdin=subprocess.PIPE, stdout=subprocess.PIPE, stderr=subprocess.PIPE, encoding="utf-8", errors="replace",
-                                preexec_fn=raise_stack if large else None)
+        return subprocess.Popen(command, stdin=subprocess.PIPE, stdout=subprocess.PIPE, stderr=subprocess.PIPE,
+                                encoding="utf-8", errors="replace", preexec_fn=raise_stack if large else None)
     except OSError as error:
         raise Faults([f"{program}: can't be started ({error.strerror}); build it with tools/build.sh engine"])
 
@@ -57,8 +57,8 @@ def ending(status):
 
 
 def run(program, text, large, total):
-    """The lines that the program writes for a scenario with so many answers. A run is complete where they are all there and nothing was said
-    on standard error; any other is a fault."""
+    """The lines that the program writes for a scenario with so many answers. A run is complete where they are all there and nothing
+    was said on standard error; any other is a fault."""
     with start(program, large) as process:
         told = []
         helpers = [threading.Thread(target=feed, args=(process, text), daemon=True),
@@ -70,6 +70,7 @@ def run(program, text, large, total):
             helper.join()
     count = sum(not line.startswith(" ") for line in answers)
     if process.returncode or told[0] or count != total:
-        raise Faults([f"{program}: {count:,} of {total:,} lines were answered, and it ended with {ending(process.returncode)}"
-                      f"{': ' + told[0] if told[0] else ''}; build it anew with tools/build.sh engine, and see that memory and stack are enough"])
+        said = f": {told[0]}" if told[0] else ""
+        raise Faults([f"{program}: {count:,} of {total:,} lines were answered, and it ended with {ending(process.returncode)}{said}; "
+                      "build it anew with tools/build.sh engine, and see that memory and stack are enough"])
     return answers

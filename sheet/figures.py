@@ -1,5 +1,5 @@
-"""The figures of a fact sheet, from the evenings of a rehearsal. A payment is made before the day's orders and earns nothing on its day,
-so a day's return is what the value without that day's payments is of the evening before."""
+"""The figures of a fact sheet, from the evenings of a rehearsal. A payment is made before the day's orders and earns nothing on its
+day, so a day's return is the value without that day's payments over the value of the evening before."""
 import math
 
 TRADING_DAYS = 252

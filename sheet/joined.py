@@ -31,7 +31,8 @@ def why(mix):
 def drawn(made):
     """The picture: return a year, or in all where some mix has none for a year."""
     rate = "return a year" if all(found["return a year"] for found in made.values()) else "return in all"
-    return compared.drawn([compared.Point(name, float(found["volatility a year"] or 0), float(found[rate])) for name, found in made.items()], rate)
+    points = [compared.Point(name, float(found["volatility a year"] or 0), float(found[rate])) for name, found in made.items()]
+    return compared.drawn(points, rate)
 
 
 def joined(folder):
@@ -39,8 +40,8 @@ def joined(folder):
     listed = mixes.read(folder)
     found = {mix.name: figures_of(mix) for mix in listed}
     made = {name: row for name, row in found.items() if row}
-    head = ["mix", *next(iter(made.values()), {})]
-    output.write(folder, {"mixes.csv": report.csv_text(head, ([name, *row.values()] for name, row in made.items())), "mixes.svg": drawn(made)})
+    head, rows = ["mix", *next(iter(made.values()), {})], ([name, *row.values()] for name, row in made.items())
+    output.write(folder, {"mixes.csv": report.csv_text(head, rows), "mixes.svg": drawn(made)})
     print(f"{len(made)} of {len(listed)} mixes: {folder}/mixes.csv, {folder}/mixes.svg")
     missing = [mix for mix in listed if not found[mix.name]]
     for mix in missing:

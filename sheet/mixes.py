@@ -12,7 +12,8 @@ from table import bytes_of, text_of
 
 
 class Mix:
-    """A mix of a sweep: its name, its weights, the quotes made ready and the plan, its sheet's folder, and the file of what its run told."""
+    """A mix of a sweep: its name, the files of its weights, of the quotes made ready and of the plan, its sheet's folder, and the file
+    of what its run told."""
 
     def __init__(self, name, weights, ready, plan, sheet, told):
         self.name, self.weights, self.ready, self.plan, self.sheet, self.told = name, weights, ready, plan, sheet, told

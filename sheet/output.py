@@ -46,7 +46,8 @@ def write(folder, texts):
         put(folder, texts, parts)
     except OSError as error:
         take_back(folder, parts, made)
-        raise Faults([of_file(error.filename or folder, f"can't be written ({error.strerror})", "check the folder, its rights and the disk")])
+        cause = f"can't be written ({error.strerror})"
+        raise Faults([of_file(error.filename or folder, cause, "check the folder, its rights and the disk")])
     except BaseException:
         take_back(folder, parts, made)
         raise

@@ -134,6 +134,6 @@ def schedule(plan, dates):
     """The plan's days: regular payments on the first trading day of each later period, weights also on the first day."""
     found = [Day(dates[0], plan.first_deposit or plan.deposit[0], 0.0, plan.rebalance != "never")]
     for before, date in zip(dates, dates[1:]):
-        deposit, withdraw = (amount if starts(rhythm_name, before, date) else 0.0 for amount, rhythm_name in (plan.deposit, plan.withdraw))
-        found.append(Day(date, deposit, withdraw, starts(plan.rebalance, before, date)))
+        paid = [amount if starts(rhythm_name, before, date) else 0.0 for amount, rhythm_name in (plan.deposit, plan.withdraw)]
+        found.append(Day(date, *paid, starts(plan.rebalance, before, date)))
     return found

@@ -1,5 +1,5 @@
-"""Quotes made ready once for many mixes: each day's table as the scenario's words, and the securities' numbers. A mix takes its own out
-of them, under its own numbers, so that its scenario is the one that its quotes alone would give."""
+"""Quotes made ready once for many mixes: each day's table as the scenario's words, and the securities' numbers. A mix takes its own
+out of them, under its own numbers, so that its scenario is the one that its quotes alone would give."""
 import amounts
 import table
 from faults import Faults, of_file

@@ -71,7 +71,8 @@ def from_line(path, line, words, faults):
     """A quote line: symbol,date,bid,ask, the date a whole number YYYYMMDD."""
     parts = QUOTE_LINE.match(words)
     if parts is None:
-        faults.append(at(path, line, "is not a quote line like those before it", "write symbol,date,bid,ask with 16 hexadecimal digits each for bid and ask"))
+        faults.append(at(path, line, "is not a quote line like those before it",
+                         "write symbol,date,bid,ask with 16 hexadecimal digits each for bid and ask"))
         return None
     symbol, day, bid, ask = parts.groups()
     digits = int(day)
@@ -96,7 +97,8 @@ def by_day(path, rows, faults):
     for row in rows:
         seen = days.setdefault(row.day, {}).setdefault(row.security, row)
         if seen is not row:
-            faults.append(at(path, row.line, f"'{row.security}' has a quote on {row.day} already, on line {seen.line}", "take one of the two out"))
+            faults.append(at(path, row.line, f"'{row.security}' has a quote on {row.day} already, on line {seen.line}",
+                             "take one of the two out"))
     return days
 
 
@@ -112,4 +114,5 @@ def crossed(path, days):
     """Rows whose bid is above the ask: they are used as they are, and told."""
     rows = [row for day in days.values() for row in day.values() if row.bid > row.ask]
     if rows:
-        yield at(path, rows[0].line, f"the bid is above the ask{f', and on {len(rows) - 1} more lines' if rows[1:] else ''}", "the quotes are used as they are")
+        more = f", and on {len(rows) - 1} more lines" if rows[1:] else ""
+        yield at(path, rows[0].line, f"the bid is above the ask{more}", "the quotes are used as they are")

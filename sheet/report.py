@@ -29,7 +29,8 @@ def months(evenings):
     yield f"{'month end':<12}{'value':>16}{'paid in, net':>16}{'cash':>16}{'trades':>8}"
     net = dict(zip((evening.date for evening in evenings), net_paid(evenings)))
     for evening in figures.month_ends(evenings):
-        yield f"{evening.date!s:<12}{money(evening.value):>16}{money(net[evening.date]):>16}{money(evening.cash):>16}{evening.trades:>8}"
+        columns = (money(amount) for amount in (evening.value, net[evening.date], evening.cash))
+        yield f"{evening.date!s:<12}{''.join(f'{column:>16}' for column in columns)}{evening.trades:>8}"
 
 
 def basis_text(basis):
@@ -107,7 +108,7 @@ def csv_text(head, rows):
 
 def days_csv(evenings, index):
     """Every evening; floats with all their digits, so that nothing is lost."""
-    rows = ([e.date, repr(e.value), repr(e.cash), repr(e.deposit), repr(e.withdraw), e.trades, repr(level)] for e, level in zip(evenings, index))
+    rows = ([e.date, e.value, e.cash, e.deposit, e.withdraw, e.trades, level] for e, level in zip(evenings, index))
     return csv_text(["date", "value", "cash", "deposit", "withdraw", "trades", "index"], rows)
 
 
@@ -119,8 +120,10 @@ def part_text(part):
 def figures_csv(found):
     """The figures as one row; returns, volatility and the fall are parts of 1."""
     fall = found.fall or figures.Fall(0.0, "", "")
-    row = {"last day": found.date, "final value": f"{found.value:.2f}", "paid in": f"{found.paid_in:.2f}", "paid out": f"{found.paid_out:.2f}",
-           "return in all": part_text(found.in_all), "return a year": part_text(found.a_year), "volatility a year": part_text(found.volatility),
+    row = {"last day": found.date, "final value": f"{found.value:.2f}",
+           "paid in": f"{found.paid_in:.2f}", "paid out": f"{found.paid_out:.2f}",
+           "return in all": part_text(found.in_all), "return a year": part_text(found.a_year),
+           "volatility a year": part_text(found.volatility),
            "largest fall": part_text(fall.part), "fall from": fall.since, "fall to": fall.until,
            "turnover": f"{found.turnover:.2f}", "trades": found.trades, "refused": found.refused}
     return csv_text(row, [row.values()])

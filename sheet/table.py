@@ -34,12 +34,14 @@ def places(path, columns, line, head):
     if len(absent) == len(columns):
         return None
     if absent:
-        raise Faults([at(path, line, f"the header has no column {' and no column '.join(absent)}", f"name the columns {', '.join(columns)}")])
+        cause = f"the header has no column {' and no column '.join(absent)}"
+        raise Faults([at(path, line, cause, f"name the columns {', '.join(columns)}")])
     return [names.index(column) for column in columns]
 
 
 def cells_of(path):
-    """The lines of a file that are not blank: (number of the first line, stripped cells); a cell in quotation marks may have several lines."""
+    """The lines of a file that are not blank: (number, stripped cells). A cell in quotation marks may have several lines; the first
+    counts."""
     text = text_of(path)
     reader, line = csv.reader(io.StringIO(text, newline=""), delimiter=delimiter(text.partition("\n")[0])), 1
     try:

@@ -52,10 +52,13 @@ def warnings(path, weights):
     if 50.0 <= total <= 150.0:
         yield of_file(path, f"the weights add up to {total:g}", "weights are parts of the account: write 0.25 for 25 %")
     elif total > 1.0 + 1e-9:
-        yield of_file(path, f"the weights add up to {total:g}", "more than the account: orders beyond its cash are refused, or cash falls below zero and positions are sold")
+        yield of_file(path, f"the weights add up to {total:g}, more than the account",
+                      "orders beyond its cash are refused, or cash falls below zero and positions are sold")
     elif total > 1.0 - 1e-9:
-        yield of_file(path, "the weights add up to 1", "no cash is kept for prices that move between an order and its trade; 0.95 in all keeps 5 %")
+        yield of_file(path, "the weights add up to 1",
+                      "no cash is kept for prices that move between an order and its trade; 0.95 in all keeps 5 %")
     elif total < 0.5:
         yield of_file(path, f"the weights add up to {total:g}", f"{1 - total:.0%} of the account stays in cash")
     for security in [security for security, weight in weights.items() if weight == 0.0]:
-        yield of_file(path, f"'{security}' has the weight 0", "it is left out: nothing of it is ever held, and the walk over weights would end there")
+        yield of_file(path, f"'{security}' has the weight 0",
+                      "it is left out: nothing of it is ever held, and the walk over weights would end there")

@@ -47,7 +47,8 @@ def run(command, heard):
     """Runs a command; `heard` gets what it writes, and b"" after a silence. Answers its status."""
     listen()
     caller = os.getppid()
-    process = subprocess.Popen(command, stdin=subprocess.DEVNULL, stdout=subprocess.PIPE, stderr=subprocess.STDOUT, start_new_session=True)
+    process = subprocess.Popen(command, stdin=subprocess.DEVNULL, stdout=subprocess.PIPE, stderr=subprocess.STDOUT,
+                               start_new_session=True)
     try:
         for piece in pieces(process):
             if ASKED or os.getppid() != caller:

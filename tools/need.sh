@@ -1,6 +1,6 @@
 #!/bin/sh
-# need.sh PROGRAM..: says in a sentence which of these programs are not there, and fails where one is missing. Where rt is asked for, it
-# warns if the kit is another than the one that the project was proved with: another may refuse what this one proved.
+# need.sh PROGRAM..: says in a sentence which of these programs are not there, and fails where one is missing. Where rt is asked
+# for, it warns if the kit is another than the one that the project was proved with: another may refuse what this one proved.
 same_kit() {
     read -r pinned < "${0%/*}/kit-version"
     kit=$(rt version 2> /dev/null)

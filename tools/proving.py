@@ -1,7 +1,7 @@
 """`rt check CRATE`, told in a line for each crate while it is proved: which it is of how many, and how long it took last time.
 
-rt keeps what a crate's check says in target/log/CRATE.out from the check's start on, so a file that is newer than the run tells that its
-crate is at work. The whole output is in target/build.out. The times are kept in target/build.times.
+rt keeps what a crate's check says in target/log/CRATE.out from the check's start on, so a file that is newer than the run tells
+that its crate is at work. The whole output is in target/build.out. The times are kept in target/build.times.
 """
 import os
 import re
@@ -121,5 +121,6 @@ def check(crate):
             told.keep_times()
     if status:
         said = (line for line in unproved(lines_of(OUT)) if not line.endswith(": proved"))
-        print(*said, f"rt check {crate} ended with status {status}; all that it said is in target/build.out", sep="\n", file=sys.stderr)
+        ended = f"rt check {crate} ended with status {status}; all that it said is in target/build.out"
+        print(*said, ended, sep="\n", file=sys.stderr)
     return status

@@ -37,4 +37,5 @@ class Folder(unittest.TestCase):
 
     def words(self, quotes=QUOTES, weights=WEIGHTS, plan=PLAN):
         """The words of a command for these texts."""
-        return ["--quotes", self.file("q.csv", quotes), "--weights", self.file("w.csv", weights), "--plan", self.file("p.txt", plan), "--to", self.to]
+        return ["--quotes", self.file("q.csv", quotes), "--weights", self.file("w.csv", weights),
+                "--plan", self.file("p.txt", plan), "--to", self.to]

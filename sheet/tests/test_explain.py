@@ -33,7 +33,8 @@ class Explained(places.Folder):
     def test_every_event(self):
         text = "\n".join(SCENARIO) + "\n"
         answers = subprocess.run([places.PROGRAM], input=text, capture_output=True, text=True, check=True).stdout
-        told = subprocess.run([sys.executable, "-B", EXPLAIN, self.file("scenario", text), self.file("answers", answers)], capture_output=True, text=True)
+        command = [sys.executable, "-B", EXPLAIN, self.file("scenario", text), self.file("answers", answers)]
+        told = subprocess.run(command, capture_output=True, text=True)
         self.assertIn(TOLD, told.stdout)
         self.assertEqual((told.returncode, told.stderr), (1, ""))
         self.assertIn("7 answers, 1 not as expected", told.stdout)

@@ -36,7 +36,8 @@ class Bad(places.Folder):
         self.refused("q.csv, line 6", "'2021-02-30' is not a date", quotes=QUOTES + "2021-02-30,A,10,11\n")
 
     def test_price_not_above_zero(self):
-        self.refused("q.csv, line 6", "the bid 0 is not above zero", "the ask -1 is not above zero", quotes=QUOTES + "2021-01-06,A,0,-1\n")
+        self.refused("q.csv, line 6", "the bid 0 is not above zero", "the ask -1 is not above zero",
+                     quotes=QUOTES + "2021-01-06,A,0,-1\n")
 
     def test_price_that_is_none(self):
         self.refused("the bid '1,5' is not a decimal number", quotes=QUOTES + '2021-01-06,A,"1,5",2\n')
@@ -44,7 +45,8 @@ class Bad(places.Folder):
     def test_price_that_is_too_large(self):
         self.refused("line 6: the ask", "is not a decimal number", quotes=QUOTES + f"2021-01-06,A,1,{'9' * 400}\n")
         large = "9" * 308
-        self.refused("too large for the engine's floats", weights="A,0.9\n", plan=f"first deposit = {large}\ndeposit = {large} daily\n")
+        self.refused("too large for the engine's floats", weights="A,0.9\n",
+                     plan=f"first deposit = {large}\ndeposit = {large} daily\n")
 
     def test_twice_on_a_day(self):
         self.refused("q.csv, line 6", "on line 2", quotes=QUOTES + "2021-01-04,A,10,11\n")
@@ -90,8 +92,10 @@ class Bad(places.Folder):
 
     def test_files_that_cannot_be_read(self):
         given = self.words()
-        for at, path, said in ((1, "/nowhere.csv", "/nowhere.csv: can't be read (No such file"), (1, self.folder, "can't be read (Is a directory)"),
-                               (3, "/nowhere.csv", "/nowhere.csv: can't be read"), (5, "/nowhere.txt", "/nowhere.txt: can't be read")):
+        for at, path, said in ((1, "/nowhere.csv", "/nowhere.csv: can't be read (No such file"),
+                               (1, self.folder, "can't be read (Is a directory)"),
+                               (3, "/nowhere.csv", "/nowhere.csv: can't be read"),
+                               (5, "/nowhere.txt", "/nowhere.txt: can't be read")):
             self.assertIn(said, str(self.fault([*given[:at], path, *given[at + 1:]])))
 
     def test_other_encodings(self):
@@ -112,7 +116,8 @@ class Bad(places.Folder):
         """No header, semicolons, line ends of Windows, other order of columns and of days, a byte order mark: the same sheet."""
         first = self.sheet()
         rows = [line.split(",") for line in QUOTES.splitlines()[1:]]
-        for text in ("\n".join(QUOTES.splitlines()[1:]) + "\n", QUOTES.replace(",", ";"), "\ufeff" + QUOTES, QUOTES.replace("\n", "\r\n"),
+        for text in ("\n".join(QUOTES.splitlines()[1:]) + "\n", QUOTES.replace(",", ";"),
+                     "\ufeff" + QUOTES, QUOTES.replace("\n", "\r\n"),
                      QUOTES.replace("\n", "\n\n,,,\n").rstrip(), "".join(reversed(QUOTES.splitlines(True)[1:])),
                      "ask,bid,security,date,note\n" + "".join(f"{d},{c},{b},{a},x\n" for a, b, c, d in rows)):
             self.assertEqual(self.sheet(quotes=text), first)
@@ -126,7 +131,8 @@ class Bad(places.Folder):
 
     def test_refused_orders_are_told(self):
         """1.9 of 1,000 less nothing is 188 of A at 10.10: 1,898.80, and there are 1,000."""
-        self.assertIn("2021-01-04  buy of 188 of A: cash does not exceed the cost at the latest ask (number 7)", self.sheet(weights="A,1.9\n"))
+        text = self.sheet(weights="A,1.9\n")
+        self.assertIn("2021-01-04  buy of 188 of A: cash does not exceed the cost at the latest ask (number 7)", text)
 
     def test_refused_payments_are_told(self):
         """All is paid out on the second day, and again on a third, when nothing is left."""

@@ -49,11 +49,13 @@ class Figures(unittest.TestCase):
 
     def test_volatility(self):
         # Returns of 10 % and -10 %: the mean is 0, the sum of squares 0.02, over 1; its root times the root of 252 is 2.2450.
-        self.assertAlmostEqual(of(("2021-01-01", 100.0, 100.0), ("2021-01-02", 110.0, 0.0), ("2021-01-03", 99.0, 0.0)).volatility, 2.2450, places=4)
-        self.assertIsNone(of(("2021-01-01", 100.0, 100.0), ("2021-01-02", 110.0, 0.0)).volatility)
+        rows = [("2021-01-01", 100.0, 100.0), ("2021-01-02", 110.0, 0.0), ("2021-01-03", 99.0, 0.0)]
+        self.assertAlmostEqual(of(*rows).volatility, 2.2450, places=4)
+        self.assertIsNone(of(*rows[:2]).volatility)
 
     def test_first_of_equal_falls(self):
-        fall = of(("2021-01-01", 100.0, 100.0), ("2021-01-02", 100.0, 0.0), ("2021-01-03", 50.0, 0.0), ("2021-01-04", 100.0, 0.0), ("2021-01-05", 50.0, 0.0)).fall
+        fall = of(("2021-01-01", 100.0, 100.0), ("2021-01-02", 100.0, 0.0), ("2021-01-03", 50.0, 0.0), ("2021-01-04", 100.0, 0.0),
+                  ("2021-01-05", 50.0, 0.0)).fall
         self.assertEqual((fall.part, str(fall.since), str(fall.until)), (0.5, "2021-01-01", "2021-01-03"))
 
     def test_no_fall(self):

@@ -25,8 +25,8 @@ def drawn(values, **more):
 
 class Pictures(unittest.TestCase):
     def test_ends(self):
-        for amounts, low, high, step in (([0.0], 0, 1, 1), ([10561.0], 0, 12000, 2000), ([60000.0], 0, 70000, 10000), ([-38000.0, 9000.0], -40000, 10000, 5000),
-                                         ([25.0], 0, 30, 5), ([10.0], 0, 11, 1)):
+        for amounts, low, high, step in (([0.0], 0, 1, 1), ([10561.0], 0, 12000, 2000), ([60000.0], 0, 70000, 10000),
+                                         ([-38000.0, 9000.0], -40000, 10000, 5000), ([25.0], 0, 30, 5), ([10.0], 0, 11, 1)):
             ends = svg.Ends(amounts)
             self.assertEqual((ends.low, ends.high, ends.step), (low, high, step))
             self.assertLessEqual(len(ends.places()), 13)
@@ -38,10 +38,11 @@ class Pictures(unittest.TestCase):
             self.assertTrue(1 <= len(found) <= 8, days)
 
     def test_inside_the_frame(self):
-        for text in (drawn([1000.0]), drawn([0.0, 0.0]), drawn([1000.0, 0.0, -500.0]), drawn([1e12, 2e12, 3e12], apart=400), drawn([1000.0, 2000.0])):
+        for text in (drawn([1000.0]), drawn([0.0, 0.0]), drawn([1000.0, 0.0, -500.0]), drawn([1e12, 2e12, 3e12], apart=400),
+                     drawn([1000.0, 2000.0])):
             points = re.findall(r"([-\d.]+),([-\d.]+)", " ".join(re.findall(r'points="([^"]*)"', text)))
             self.assertGreaterEqual(len(points), 2)
-            self.assertTrue(all(svg.LEFT <= float(x) <= svg.WIDTH - svg.RIGHT and svg.TOP <= float(y) <= svg.HEIGHT - svg.BOTTOM for x, y in points))
+            self.assertTrue(all(svg.across(0) <= float(x) <= svg.across(1) and svg.up(1) <= float(y) <= svg.up(0) for x, y in points))
 
     def test_labels_are_apart(self):
         ends = re.findall(r'x="848.0" y="([\d.]+)"', drawn([1000.0, 1001.0]))

@@ -24,7 +24,8 @@ def small_files():
 class Runs(places.Folder):
     def start(self, words, program=places.PROGRAM, **more):
         more = {"stdout": subprocess.PIPE, **more}
-        return subprocess.Popen([sys.executable, "-B", SHEET, *words], stderr=subprocess.PIPE, text=True, env={**os.environ, "REHEARSE": program}, **more)
+        return subprocess.Popen([sys.executable, "-B", SHEET, *words], stderr=subprocess.PIPE, text=True,
+                                env={**os.environ, "REHEARSE": program}, **more)
 
     def run_it(self, words, **more):
         process = self.start(words, **more)
@@ -95,11 +96,14 @@ class Runs(places.Folder):
 
     def test_answers_that_are_wrong(self):
         kept = self.answers()
-        self.fails("not of the form of docs/SCENARIOS.md", program=self.script(f"sed 's/get_total_value .*/get_total_value much/' {kept}\n"))
+        self.fails("not of the form of docs/SCENARIOS.md",
+                   program=self.script(f"sed 's/get_total_value .*/get_total_value much/' {kept}\n"))
         self.fails("cash and holdings add up to 1000.0, and the value is 1.0",
                    program=self.script(f"sed 's/get_total_value .*/get_total_value 3ff0000000000000/' {kept}\n"))
-        self.fails("0 trades are shown, and 1 were counted", program=self.script(f"sed 's/executed_trade_count .*/executed_trade_count 1/' {kept}\n"))
-        self.fails("the program's answer to 'new' is '5 malformed'", program=self.script(f"sed 's/^5 new built/5 malformed/' {kept}\n"))
+        self.fails("0 trades are shown, and 1 were counted",
+                   program=self.script(f"sed 's/executed_trade_count .*/executed_trade_count 1/' {kept}\n"))
+        self.fails("the program's answer to 'new' is '5 malformed'",
+                   program=self.script(f"sed 's/^5 new built/5 malformed/' {kept}\n"))
 
     def test_a_full_disk(self):
         self.fails("can't be written (File too large)", preexec_fn=small_files)

@@ -1,5 +1,5 @@
-"""Many mixes: the quotes made ready give each mix the scenario of its own sheet; what failed is named, and a sweep that was interrupted
-and resumed gives the table of one that was not."""
+"""Many mixes: the quotes made ready give each mix the scenario of its own sheet; what failed is named, and a sweep that was
+interrupted and resumed gives the table of one that was not."""
 import glob
 import os
 import shutil
@@ -28,7 +28,8 @@ class Ready(places.Folder):
 
     def test_a_mix_has_the_scenario_of_its_own_sheet(self):
         quotes, ready = self.file("q.csv", THREE), os.path.join(self.folder, "ready")
-        mixes = [self.file("all.csv", "A,0.3\nB,0.3\nC,0.3\n"), self.file("some.csv", "C,0.4\nB,0.4\n"), self.file("one.csv", "C,0.9\n")]
+        mixes = [self.file("all.csv", "A,0.3\nB,0.3\nC,0.3\n"), self.file("some.csv", "C,0.4\nB,0.4\n"),
+                 self.file("one.csv", "C,0.9\n")]
         sheet.prepare(sheet.arguments(["--quotes", quotes, "--weights", *mixes, "--prepare", ready]))
         for mix in mixes:
             self.assertEqual(self.scenario("--prepared", ready, weights=mix), self.scenario("--quotes", quotes, weights=mix))
@@ -43,8 +44,8 @@ class Ready(places.Folder):
 @unittest.skipUnless(shutil.which("parallel"), "GNU parallel is not there")
 class Sweep(places.Folder):
     def command(self, to, mixes):
-        return [SWEEP, "--quotes", self.file("q.csv", THREE), "--plan", self.file("a plan.txt", "first deposit = 1000\nrebalance = daily\n"),
-                "--to", os.path.join(self.folder, to), *mixes]
+        plan = self.file("a plan.txt", "first deposit = 1000\nrebalance = daily\n")
+        return [SWEEP, "--quotes", self.file("q.csv", THREE), "--plan", plan, "--to", os.path.join(self.folder, to), *mixes]
 
     def start(self, command):
         return subprocess.Popen(command, stdout=subprocess.PIPE, stderr=subprocess.PIPE, text=True, start_new_session=True,
@@ -92,7 +93,8 @@ class Sweep(places.Folder):
         out, said, status = self.swept(self.command("out", mixes))
         self.assertEqual(status, 1)
         self.assertIn("2 of 3 mixes", out)
-        self.assertEqual(said, f"no sheet of bad: {mixes[2]}, line 1: 'Z' has no quote in any line of the quotes; correct the name, or add its quotes\n")
+        self.assertEqual(said, f"no sheet of bad: {mixes[2]}, line 1: 'Z' has no quote in any line of the quotes; "
+                               "correct the name, or add its quotes\n")
         self.assertEqual([line.partition(",")[0] for line in self.joined("out")[0].splitlines()], ["mix", "mix 1", "mix 2"])
 
     def test_another_sweep_in_the_folder(self):

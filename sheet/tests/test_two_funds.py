@@ -3,9 +3,9 @@
 25 Jan: 10,000 is paid in. 35 % is 3,500, less the flat 1: 3,499 at 50.05 buys 69 of the bond fund; 60 % is 6,000, less 1: 5,999 at
     100.10 buys 59 of the equity fund. 26 Jan books the orders.
 27 Jan: they trade at the asks. 69 x 50.00 = 3,450.00 and 59 x 102.10 = 6,023.90; cash is 10,000 - 9,473.90 = 526.10.
-1 Feb: 500 is paid in; cash is 1,026.10. The positions are worth 69 x 50.30 = 3,470.70 and 59 x 97.40 = 5,746.60, each 1 less where it is sold:
-    the liquidation value is 1,026.10 + 3,469.70 + 5,745.60 = 10,241.40. 35 % of it is 3,584.49; 113.79 are missing, less 1: 112.79 at 50.40
-    buys 2. 60 % is 6,144.84; 398.24 are missing, less 1: 397.24 at 97.60 buys 4.
+1 Feb: 500 is paid in; cash is 1,026.10. The positions are worth 69 x 50.30 = 3,470.70 and 59 x 97.40 = 5,746.60, each 1 less where
+    it is sold: the liquidation value is 1,026.10 + 3,469.70 + 5,745.60 = 10,241.40. 35 % of it is 3,584.49; 113.79 are missing,
+    less 1: 112.79 at 50.40 buys 2. 60 % is 6,144.84; 398.24 are missing, less 1: 397.24 at 97.60 buys 4.
 3 Feb: they trade. 2 x 50.25 = 100.50 and 4 x 100.10 = 400.40; cash is 1,026.10 - 500.90 = 525.20.
 """
 import csv
@@ -101,7 +101,8 @@ class TwoFunds(unittest.TestCase):
 
     def test_largest_fall(self):
         # From the 1 of 25 January to 0.97434 on 1 February: 9,743.40 of 10,000.
-        self.assertEqual([self.figures[name] for name in ("largest fall", "fall from", "fall to")], ["0.025660", "2021-01-25", "2021-02-01"])
+        self.assertEqual([self.figures[name] for name in ("largest fall", "fall from", "fall to")],
+                         ["0.025660", "2021-01-25", "2021-02-01"])
         self.assertIn("2.57%, from 2021-01-25 to 2021-02-01", self.text)
 
     def test_the_sheet(self):
