@@ -35,20 +35,20 @@ python3 -B "$root/sheet/sheet.py" --quotes "$quotes" --weights "$@" --prepare "$
 REHEARSE=${REHEARSE:-$root/target/bin/rehearse}
 case $REHEARSE in /*) ;; *) REHEARSE=$PWD/$REHEARSE ;; esac
 export REHEARSE
-# On this machine the interpreter itself, without site packages: it starts sooner than one behind a shim.
-python="$(python3 -c 'import sys; print(sys.executable)') -S"
+# The interpreter itself starts sooner than one behind a shim; without site packages (-S) sooner still.
+PATH=$(python3 -c 'import os, sys; print(os.path.dirname(sys.executable))'):$PATH
 set --
 [ ! -t 2 ] || set -- --bar
-[ -z "$hosts" ] || { set -- "$@" --sshloginfile "$hosts" --env REHEARSE; python=python3; }
-# A mix that fails says why in its file; the others go on.
-parallel "$@" --will-cite --jobs "$jobs" --workdir "$root" --colsep '\t' --trim n --joblog "$folder/joblog" --resume-failed \
-    --arg-file "$folder/mixes.txt" \
-    $python -B sheet/sheet.py --no-scenario --prepared {3} --weights {2} --plan {4} --to {5} '>' {6} '2>&1' &
+[ -z "$hosts" ] || set -- "$@" --sshloginfile "$hosts" --env REHEARSE
+# A mix that fails says why in its file; the others go on. Of parallel's jobs each is a group of its own, so the session is ended whole.
+python3 -B "$root/tools/group.py" parallel "$@" --will-cite --jobs "$jobs" --workdir "$root" --colsep '\t' --trim n \
+    --joblog "$folder/joblog" --resume-failed --arg-file "$folder/mixes.txt" \
+    python3 -S -B sheet/sheet.py --no-scenario --prepared {3} --weights {2} --plan {4} --to {5} '>' {6} '2>&1' &
 running=$!
 stop() {
     kill "$running" 2> /dev/null || true
     wait "$running" || true
-    echo "stopped; the same command goes on from here" >&2
+    echo "the same command goes on from here" >&2
     exit 130
 }
 trap stop INT TERM HUP

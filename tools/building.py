@@ -1,5 +1,5 @@
-"""building.py PART..: builds the parts of tools/build.sh in turn, each with all that it starts as one group: interrupted, it leaves no
-process behind. Ends with the status of the first part that fails."""
+"""building.py PART..: builds the parts of tools/build.sh in turn; interrupted, it leaves no process behind. Ends with the status of
+the first part that fails."""
 import os
 import sys
 
@@ -23,13 +23,8 @@ def recording():
     return 0 if status == 1 and proving.is_recorded_otherwise(CRATE) else status
 
 
-def pass_on(piece):
-    sys.stderr.buffer.write(piece)
-    sys.stderr.flush()
-
-
 def oracle():
-    return group.run([os.path.join(proving.ROOT, "oracle", "build.sh"), "--changed"], pass_on)
+    return group.run([os.path.join(proving.ROOT, "oracle", "build.sh"), "--changed"], group.pass_on)
 
 
 PARTS = {"engine": engine, "recording": recording, "oracle": oracle}

@@ -80,6 +80,10 @@ class Bad(places.Folder):
         self.refused("q.csv, line 3", "fewer than four cells", quotes=QUOTES.replace("2021-01-04,B", '2021-01-04,"B'))
         self.refused("q.csv, line 3", "not closed", quotes=QUOTES.replace("2021-01-04,B", '2021-01-04,"B') + "x" * 200000)
 
+    def test_lines_are_counted_over_cells_of_several(self):
+        quotes = "date,security,bid,ask,note\n" + '2021-01-04,A,10.00,10.10,"two\nlines"\n2021-01-05,A,ten,10.20,x\n'
+        self.refused("q.csv, line 4: the bid 'ten'", quotes=quotes)
+
     def test_plan_that_is_none(self):
         self.refused("p.txt, line 2", "'fee' is no part of a plan", plan=PLAN + "fee = 3\n")
         self.refused("p.txt, line 2", "has no '='", plan=PLAN + "monthly\n")

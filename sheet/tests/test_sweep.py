@@ -69,6 +69,10 @@ class Sweep(places.Folder):
     def mixes(self, count):
         return [self.file(f"mix {n}.csv", f"A,0.{n:02}\nB,0.3\nC,0.2\n") for n in range(1, count + 1)]
 
+    def done(self, log):
+        """The mixes that a log has as run: its first column counts the list's lines from 1."""
+        return [f"mix {line.partition(chr(9))[0]}" for line in text_of(log).splitlines()[1:]]
+
     def joined(self, to):
         return [text_of(self.folder, to, name) for name in ("mixes.csv", "mixes.svg")]
 
@@ -84,9 +88,12 @@ class Sweep(places.Folder):
         self.assertIn("stopped", process.communicate()[1])
         self.assertLess(len(text_of(log).splitlines()), 25)
         self.assertFalse(os.path.exists(os.path.join(self.folder, "parts", "mixes.csv")))
+        done = [os.path.join(self.folder, "parts", "sheets", name, "sheet.txt") for name in self.done(log)]
+        before = [os.stat(path).st_mtime_ns for path in done]
         self.assertEqual(self.swept(self.command("parts", mixes))[1:], ("", 0))
         self.assertEqual(self.joined("parts"), self.joined("whole"))
         self.assertEqual(len(self.joined("whole")[0].splitlines()), 25)
+        self.assertEqual([os.stat(path).st_mtime_ns for path in done], before)
 
     def test_a_mix_that_fails(self):
         mixes = [*self.mixes(2), self.file("bad.csv", "Z,0.3\n")]
