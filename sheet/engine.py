@@ -2,8 +2,9 @@
 import resource
 import signal
 import subprocess
-import threading
+import tempfile
 
+import stops
 from faults import Faults
 from progress import Progress
 
@@ -18,37 +19,46 @@ def raise_stack():
         resource.setrlimit(resource.RLIMIT_STACK, (LARGE_STACK, most))
 
 
-def start(program, large):
-    command = [program] + (["large"] if large else [])
+def start(program, large, given, said):
+    """The program with these files as standard input and standard error."""
+    def prepare():
+        stops.let_through()
+        if large:
+            raise_stack()
+
     try:
-        return subprocess.Popen(command, stdin=subprocess.PIPE, stdout=subprocess.PIPE, stderr=subprocess.PIPE,
-                                encoding="utf-8", errors="replace", preexec_fn=raise_stack if large else None)
+        return subprocess.Popen([program] + (["large"] if large else []), stdin=given, stdout=subprocess.PIPE, stderr=said,
+                                encoding="utf-8", errors="replace", preexec_fn=prepare)
     except OSError as error:
         raise Faults([f"{program}: can't be started ({error.strerror}); build it with tools/build.sh engine"])
 
 
-def feed(process, text):
-    """Writes the scenario; a program that ends before it has read all is found by its answers."""
-    try:
-        process.stdin.write(text)
-        process.stdin.close()
-    except OSError:
-        pass
-
-
-def answers_of(process, progress):
-    """The lines that come; a process that is left before its end is stopped."""
-    answers = []
+def lines_of(process, progress):
+    """The lines that come, until the process ends."""
+    found = []
     try:
         for line in process.stdout:
-            answers.append(line.rstrip("\n"))
-            progress.at(len(answers))
-    except BaseException:
-        process.kill()
-        raise
+            found.append(line.rstrip("\n"))
+            progress.at(len(found))
     finally:
         progress.over()
-    return answers
+    process.stdout.close()
+    process.wait()
+    return found
+
+
+def ran(program, large, given, said, total):
+    """What the program writes, and the status that it ends with. Stopped, it leaves no process behind."""
+    process = None
+    try:
+        with stops.held():
+            process = start(program, large, given, said)
+        return lines_of(process, Progress("rehearsing", total)), process.returncode
+    except BaseException:
+        if process is not None:
+            process.kill()
+            process.wait()
+        raise
 
 
 def ending(status):
@@ -56,21 +66,26 @@ def ending(status):
     return f"status {status}" if status >= 0 else f"signal {signal.Signals(-status).name}"
 
 
+def given_and_said(program, text, large, total):
+    """A run over files: what the program writes, its status, and what it says on standard error."""
+    with tempfile.TemporaryFile() as given, tempfile.TemporaryFile() as said:
+        given.write(text.encode())
+        given.seek(0)
+        answers, status = ran(program, large, given, said, total)
+        said.seek(0)
+        return answers, status, " ".join(said.read().decode(errors="replace").split())
+
+
 def run(program, text, large, total):
     """The lines that the program writes for a scenario with so many answers. A run is complete where they are all there and nothing
     was said on standard error; any other is a fault."""
-    with start(program, large) as process:
-        told = []
-        helpers = [threading.Thread(target=feed, args=(process, text), daemon=True),
-                   threading.Thread(target=lambda: told.append(" ".join(process.stderr.read().split())), daemon=True)]
-        for helper in helpers:
-            helper.start()
-        answers = answers_of(process, Progress("rehearsing", total))
-        for helper in helpers:
-            helper.join()
+    try:
+        answers, status, told = given_and_said(program, text, large, total)
+    except OSError as error:
+        raise Faults([f"a temporary file can't be written ({error.strerror}); make room for it, or name another place by TMPDIR"])
     count = sum(not line.startswith(" ") for line in answers)
-    if process.returncode or told[0] or count != total:
-        said = f": {told[0]}" if told[0] else ""
-        raise Faults([f"{program}: {count:,} of {total:,} lines were answered, and it ended with {ending(process.returncode)}{said}; "
+    if status or told or count != total:
+        said = f": {told}" if told else ""
+        raise Faults([f"{program}: {count:,} of {total:,} lines were answered, and it ended with {ending(status)}{said}; "
                       "build it anew with tools/build.sh engine, and see that memory and stack are enough"])
     return answers

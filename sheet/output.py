@@ -1,11 +1,9 @@
 """Files written whole or not at all: each is first written beside its place, and all are put there once every one is complete."""
 import errno
 import os
-import signal
 
+import stops
 from faults import Faults, of_file
-
-STOPS = {signal.SIGINT, signal.SIGTERM, signal.SIGHUP}
 
 
 def write_parts(folder, texts, parts):
@@ -20,12 +18,9 @@ def write_parts(folder, texts, parts):
 
 def put(folder, names, parts):
     """Puts every part in its place; a signal to stop waits until all are there."""
-    before = signal.pthread_sigmask(signal.SIG_BLOCK, STOPS)
-    try:
+    with stops.held():
         for name, part in zip(names, parts):
             os.replace(part, os.path.join(folder, name))
-    finally:
-        signal.pthread_sigmask(signal.SIG_SETMASK, before)
 
 
 def take_back(folder, parts, made):

@@ -17,8 +17,8 @@ SCRIPT = "#!/bin/sh\ncat > /dev/null\n"
 
 
 def small_files():
-    """No file may have more than 1,000 bytes: a write fails as on a full disk."""
-    resource.setrlimit(resource.RLIMIT_FSIZE, (1000, resource.getrlimit(resource.RLIMIT_FSIZE)[1]))
+    """No file may have more than 2,000 bytes, less than the picture has: a write fails as on a full disk."""
+    resource.setrlimit(resource.RLIMIT_FSIZE, (2000, resource.getrlimit(resource.RLIMIT_FSIZE)[1]))
 
 
 class Runs(places.Folder):
@@ -106,7 +106,12 @@ class Runs(places.Folder):
                    program=self.script(f"sed 's/^5 new built/5 malformed/' {kept}\n"))
 
     def test_a_full_disk(self):
-        self.fails("can't be written (File too large)", preexec_fn=small_files)
+        self.fails("out: can't be written (File too large)", preexec_fn=small_files)
+
+    def test_no_room_for_the_scenario(self):
+        days = "".join(f"2021-02-{day:02},A,10.00,10.10\n" for day in range(1, 29))
+        self.fails("a temporary file can't be written (File too large)",
+                   words=self.words(quotes=places.QUOTES + days), preexec_fn=small_files)
 
     def test_a_full_disk_keeps_the_last_sheet(self):
         self.assertEqual(self.run_it(self.words())[0], 0)

@@ -70,8 +70,9 @@ class Sweep(places.Folder):
         return [self.file(f"mix {n}.csv", f"A,0.{n:02}\nB,0.3\nC,0.2\n") for n in range(1, count + 1)]
 
     def done(self, log):
-        """The mixes that a log has as run: its first column counts the list's lines from 1."""
-        return [f"mix {line.partition(chr(9))[0]}" for line in text_of(log).splitlines()[1:]]
+        """The mixes that a log has as run to their end: its first column counts the list's lines, two have status and signal."""
+        rows = [line.split("\t") for line in text_of(log).splitlines()[1:]]
+        return [f"mix {row[0]}" for row in rows if row[6:8] == ["0", "0"]]
 
     def joined(self, to):
         return [text_of(self.folder, to, name) for name in ("mixes.csv", "mixes.svg")]
@@ -90,6 +91,7 @@ class Sweep(places.Folder):
         self.assertFalse(os.path.exists(os.path.join(self.folder, "parts", "mixes.csv")))
         done = [os.path.join(self.folder, "parts", "sheets", name, "sheet.txt") for name in self.done(log)]
         before = [os.stat(path).st_mtime_ns for path in done]
+        self.assertGreaterEqual(len(done), 3)
         self.assertEqual(self.swept(self.command("parts", mixes))[1:], ("", 0))
         self.assertEqual(self.joined("parts"), self.joined("whole"))
         self.assertEqual(len(self.joined("whole")[0].splitlines()), 25)
