@@ -38,10 +38,9 @@ export REHEARSE
 # The interpreter itself starts sooner than one behind a shim; without site packages (-S) sooner still.
 PATH=$(python3 -c 'import os, sys; print(os.path.dirname(sys.executable))'):$PATH
 set --
-[ ! -t 2 ] || set -- --bar
-[ -z "$hosts" ] || set -- "$@" --sshloginfile "$hosts" --env REHEARSE
-# A mix that fails says why in its file; the others go on. Of parallel's jobs each is a group of its own, so the session is ended whole.
-python3 -B "$root/tools/group.py" parallel "$@" --will-cite --jobs "$jobs" --workdir "$root" --colsep '\t' --trim n \
+[ -z "$hosts" ] || set -- --sshloginfile "$hosts" --env REHEARSE
+# A mix that fails says why in its file; the others go on.
+python3 -B "$root/sheet/swept.py" "$folder" parallel "$@" --will-cite --jobs "$jobs" --workdir "$root" --colsep '\t' --trim n \
     --joblog "$folder/joblog" --resume-failed --arg-file "$folder/mixes.txt" \
     python3 -S -B sheet/sheet.py --no-scenario --prepared {3} --weights {2} --plan {4} --to {5} '>' {6} '2>&1' &
 running=$!

@@ -1,5 +1,5 @@
-"""group.py COMMAND..: runs a command and passes on what it writes. The command and all that it starts are one session, which ends where
-this process is told to stop, or where its caller is gone."""
+"""A command and all that it starts, as one session, whatever groups it has: it ends where this process is told to stop, or where its
+caller is gone."""
 import glob
 import os
 import selectors
@@ -93,7 +93,3 @@ def pass_on(piece):
     """What is heard goes to standard error."""
     sys.stderr.buffer.write(piece)
     sys.stderr.flush()
-
-
-if __name__ == "__main__":
-    sys.exit(run(sys.argv[1:], pass_on))

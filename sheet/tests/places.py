@@ -1,4 +1,5 @@
-"""Where the tests find the sheet's modules, the examples and the program; and a folder of small files for each test."""
+"""Where the tests find the sheet's modules, the examples and the program; a folder of small files for each test; which processes run."""
+import glob
 import os
 import sys
 import tempfile
@@ -19,6 +20,22 @@ date,security,bid,ask
 """
 WEIGHTS = "security,weight\nA,0.5\nB,0.4\n"
 PLAN = "first deposit = 1000\n"
+
+
+def text_of(*parts):
+    with open(os.path.join(*parts), encoding="utf-8") as file:
+        return file.read()
+
+
+def commands_with(words):
+    """The commands of running processes in which these words stand."""
+    found = []
+    for path in glob.glob("/proc/[0-9]*/cmdline"):
+        try:
+            found.append(text_of(path).replace("\0", " "))
+        except OSError:
+            pass
+    return [command for command in found if words in command]
 
 
 class Folder(unittest.TestCase):

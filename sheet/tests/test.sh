@@ -1,5 +1,6 @@
 #!/bin/sh
-# The tests of the sheet: figures against a plan worked out by hand, bad files named, nothing written half.
+# The tests of the sheet and of the scripts: figures against a plan worked out by hand, bad files named, nothing written half, nothing
+# left behind.
 # Builds the program where it is out of date. REHEARSE names another build of it.
 set -eu
 root=$(cd "$(dirname "$0")/../.." && pwd)

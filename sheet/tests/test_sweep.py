@@ -1,6 +1,5 @@
 """Many mixes: the quotes made ready give each mix the scenario of its own sheet; what failed is named, and a sweep that was
 interrupted and resumed gives the table of one that was not."""
-import glob
 import os
 import shutil
 import signal
@@ -10,15 +9,10 @@ import unittest
 
 import places
 import sheet
-from places import QUOTES
+from places import QUOTES, text_of
 
 SWEEP = os.path.join(places.ROOT, "examples", "sweep.sh")
 THREE = QUOTES + "2021-01-05,C,30.00,30.10\n2021-01-06,C,31.00,31.10\n2021-01-07,A,10.20,10.30\n2021-01-08,A,10.30,10.40\n"
-
-
-def text_of(*parts):
-    with open(os.path.join(*parts), encoding="utf-8") as file:
-        return file.read()
 
 
 class Ready(places.Folder):
@@ -56,16 +50,6 @@ class Sweep(places.Folder):
         process = self.start(command)
         return (*process.communicate(timeout=120), process.returncode)
 
-    def left(self):
-        """The commands of processes that were started with a file of the test's folder."""
-        found = []
-        for path in glob.glob("/proc/[0-9]*/cmdline"):
-            try:
-                found.append(text_of(path))
-            except OSError:
-                pass
-        return [command for command in found if self.folder in command]
-
     def mixes(self, count):
         return [self.file(f"mix {n}.csv", f"A,0.{n:02}\nB,0.3\nC,0.2\n") for n in range(1, count + 1)]
 
@@ -85,7 +69,7 @@ class Sweep(places.Folder):
             time.sleep(0.01)
         os.kill(process.pid, signal.SIGINT)
         process.wait(timeout=60)
-        self.assertEqual(self.left(), [])
+        self.assertEqual(places.commands_with(self.folder), [])
         self.assertIn("stopped", process.communicate()[1])
         self.assertLess(len(text_of(log).splitlines()), 25)
         self.assertFalse(os.path.exists(os.path.join(self.folder, "parts", "mixes.csv")))
