@@ -159,7 +159,8 @@ def tell(text, folder):
 
 def main(words):
     signal.signal(signal.SIGTERM, stopped)
-    sys.stdout.reconfigure(errors="replace")
+    if sys.stdout is not None:
+        sys.stdout.reconfigure(errors="replace")
     found = arguments(words)
     program = os.environ.get("REHEARSE") or os.path.join(ROOT, "target", "bin", "rehearse")
     try:

@@ -1,4 +1,5 @@
-"""Where the tests find the sheet's modules, the examples and the program; a folder of small files for each test; which processes run."""
+"""Where the tests find the sheet's modules, the examples and the program; a folder of small files for each test; which processes
+run."""
 import glob
 import os
 import sys

@@ -12,7 +12,7 @@ import unittest
 import places
 
 SHEET = os.path.join(places.ROOT, "sheet", "sheet.py")
-# A program that answers as the real one does, on its own terms: what stands in the file of answers, or a part of it.
+# How a program in the engine's place begins: it reads the whole scenario.
 SCRIPT = "#!/bin/sh\ncat > /dev/null\n"
 
 

@@ -1,5 +1,5 @@
-"""The scripts' building, with a stand-in for rt in a copy of tools/: what is missing is said at once, each crate is announced, what the
-prover says and its status arrive, and a script that is interrupted leaves no process behind."""
+"""The scripts' building, with a stand-in for rt in a copy of tools/: what is missing is said at once, each crate is announced, what
+the prover says and its status arrive, and a script that is interrupted leaves no process behind."""
 import os
 import shutil
 import signal
