@@ -1,6 +1,6 @@
 """bench.py ROUNDS [NAME..]: run every scenario of the benchmark (or those named) on every engine, in turn, and print the table.
 
-Run in the repository, with the engines built. The time of the timed calls is what each engine tells by `clock`. What the
+Run in the repository, with the engines built. The time of the timed calls is what each engine tells by `clock`; of a whole run it is the processor time. What the
 Rattle program answers must equal, line by line and bit by bit, what the Rust with ordered maps answers: every call's answer and the
 final state. The Rust as published walks its maps in random order, so its sums' last bits and its trades' order may differ; whether
 its holdings, bases and set of trades are the same is told.
@@ -134,10 +134,11 @@ def main(rounds, *names):
     if missing:
         sys.exit(f"not built: {' '.join(missing)}")
     WORK.mkdir(parents=True, exist_ok=True)
-    names = names or tuple(scenarios.SCENARIOS)
+    made = scenarios.SCENARIOS | scenarios.WHOLE
+    names = names or tuple(made)
     for name in names:
         with open(WORK / f"{name}.txt", "w") as out:
-            out.writelines(line + "\n" for line in scenarios.SCENARIOS[name][2]())
+            out.writelines(line + "\n" for line in made[name][2]())
     found = measured(int(rounds), names)
     text = table.markdown(found) + "\n" + table.notes(found, ENGINES["rehearse"])
     (WORK / "table.md").write_text(text)

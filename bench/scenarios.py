@@ -1,7 +1,7 @@
 """scenarios.py NAME: print the scenario of that name of the benchmark; without a name, the names.
 
 Each is the same text on every machine. What is timed stands between pairs of `clock` lines: the odd ones start a stretch, the even
-ones end it. Answers are written quietly, and the whole state once, at the end.
+ones end it; of those in WHOLE it is the whole run. Answers are written quietly, and the whole state once, at the end.
 
 Prices: the draws are those of tools/scenario/draws.py from 7 on. A security's first mid is 50 + (draw modulo 10,000) / 100. Each day
 it is multiplied by 0.98 + (draw modulo 4,001) / 100,000; bid is mid * 0.9995, ask mid * 1.0005. There are no costs.
@@ -121,8 +121,33 @@ SCENARIOS = {f"update-{n}": ("update", n, lambda n=n: update(n)) for n in UPDATE
 }
 
 
+LINES = 1000000
+
+
+def short_lines():
+    """A comment, a deposit, a withdrawal and two reads, over and over."""
+    yield from started(Prices(100).next_day(), 10000000.0)
+    turn = ["# a line that is passed over", lines.amount("deposit", 2.0), lines.amount("withdraw", 1.0), "get_cash_balance",
+            lines.read("get_position_qty", 1)]
+    yield from turn * (LINES // len(turn))
+    yield "state"
+
+
+def comments():
+    yield "quiet"
+    yield from ["# a line that is passed over"] * LINES
+    yield "state"
+
+
+# Scenarios of which the whole run is timed, reading and writing too. name: what its lines are, how many there are, the maker
+WHOLE = {
+    "short-lines": ("a comment, a deposit, a withdrawal, two reads", LINES, short_lines),
+    "comments": ("comments alone", LINES, comments),
+}
+
+
 def main(name=None):
-    found = SCENARIOS[name][2]() if name else SCENARIOS
+    found = (SCENARIOS | WHOLE)[name][2]() if name else SCENARIOS | WHOLE
     sys.stdout.writelines(line + "\n" for line in found)
 
 

@@ -2,8 +2,9 @@
 import platform
 from statistics import median
 
-from scenarios import SCENARIOS
+from scenarios import SCENARIOS, WHOLE
 
+WHOLE_HEADS = ["lines of a whole run", "lines", "Rattle", "Rust as published", "bent Rust", "Rattle / published", "Rattle / bent"]
 HEADS = ["call", "symbols", "Rattle", "Rust as published", "Rust mended", "bent Rust", "bent and mended",
          "published / Rattle", "mended / Rattle", "Rattle per symbol"]
 
@@ -26,9 +27,22 @@ def row(name, runs):
     return [what, str(symbols or ""), *times, ratio(runs, "unchanged"), ratio(runs, "mended"), per_symbol]
 
 
+def whole_row(name, runs):
+    what, lines, _ = WHOLE[name]
+    times = [figure(median(r[engine].processor for r in runs) * 1e6 / lines) for engine in ("rehearse", "unchanged", "bent")]
+    ratios = [figure(median(r["rehearse"].processor / r[engine].processor for r in runs)) for engine in ("unchanged", "bent")]
+    return [what, f"{lines:,}", *times, *ratios]
+
+
+def page(heads, rows):
+    cells = [heads, ["---"] + ["---:"] * (len(heads) - 1)] + rows
+    return "".join("| " + " | ".join(row) + " |\n" for row in cells) if rows else ""
+
+
 def markdown(found):
-    rows = [HEADS, ["---"] + ["---:"] * (len(HEADS) - 1)] + [row(name, runs) for name, runs in found.items()]
-    return "".join("| " + " | ".join(cells) + " |\n" for cells in rows)
+    calls = page(HEADS, [row(name, runs) for name, runs in found.items() if name in SCENARIOS])
+    whole = page(WHOLE_HEADS, [whole_row(name, runs) for name, runs in found.items() if name in WHOLE])
+    return "\n".join(filter(None, (calls, whole)))
 
 
 def processor():
@@ -50,7 +64,7 @@ def waited(found):
 def notes(found, rattle):
     """What was compared, and where the Rust with random maps differs."""
     rounds = len(next(iter(found.values())))
-    text = (f"µs a call; the median of {rounds} rounds, ratios within a round. Processor: {processor()}. Rattle: {rattle}.\n"
+    text = (f"µs of processor time a call, or a line; the median of {rounds} rounds, ratios within a round. Processor: {processor()}. Rattle: {rattle}.\n"
             f"An engine waited for a processor during up to {waited(found):.0%} of a run.\n"
             "Every answer and the final state of the bent Rust, mended or not, equal the Rattle program's, bit for bit, in every run.\n")
     for engine, title in (("unchanged", "as published"), ("mended", "mended")):

@@ -1,11 +1,13 @@
 """Compares the engine with the Rust and with document 01's model: generates scenarios from a seed, runs both
 programs on them, and says what was compared and whether there is a difference; then sees that the lying engines
-of liars.py are refused. Exit status 1 where there is a difference, or a lying engine passes."""
+of liars.py are refused. Exit status 1 where there is a difference, a lying engine passes, or no damaged line was
+malformed for one of the reasons."""
 
 import argparse
 import os
 import sys
 import time
+from collections import Counter
 
 ROOT = os.path.dirname(os.path.dirname(os.path.abspath(__file__)))
 # Nothing is written beside the sources; tools/ has the shared package.
@@ -14,7 +16,9 @@ sys.path.insert(0, os.path.join(ROOT, "tools"))
 
 import damage
 import differences
+import ends
 import exhaustive
+import forms
 import judge
 import liars
 import programs
@@ -37,6 +41,8 @@ def options():
     parser.add_argument("--damaged", type=int, default=None, help="damaged lines; a twentieth if not given")
     parser.add_argument("--log-rows", type=int, default=65536, help="the rows that the engine's log has")
     parser.add_argument("--liars", action="store_true", help="try the lying engines and nothing else")
+    parser.add_argument("--driver", action="store_true",
+                        help="hold the Rust's driver to forms.py on damaged lines and nothing else; needs no engine")
     parser.add_argument("--engine", default=os.path.join(ROOT, "target", "bin", "rehearse"))
     parser.add_argument("--oracle", default=os.path.join(ROOT, "target", "oracle", "bent"))
     parser.add_argument("--unchanged", default=os.path.join(ROOT, "target", "oracle", "unchanged"))
@@ -121,19 +127,37 @@ class Comparison:
         self.faults.append(what)
 
 
-def compare_damaged(given, seed, count):
-    """Damaged lines: how many of each sort, and the first fault, or None."""
-    source = damage.texts(seed)
-    counts = [0, 0]
-    while sum(counts) < count:
-        lines = next(source)
-        found, fault = damage.check(given.engine, given.oracle, lines, given.log_rows)
-        counts = [counts[0] + found[0], counts[1] + found[1]]
-        if fault is not None:
-            still = damage.well_formed(lines, given.log_rows)
-            return counts, "%s; without the malformed lines: %s" % (
-                fault, shorten.report(FOLDER, "damaged", still, given.engine, given.oracle))
-    return counts, None
+def damaged_driver(given, lines):
+    """How many of these lines were met, by reason, and the first fault of the Rust's driver, or None."""
+    met, fault = damage.check_driver(given.oracle, lines)
+    return met, None if fault is None else "the Rust's driver, " + fault
+
+
+def damaged_both(given, lines):
+    """The same of the engine, and where it has no fault of the driver."""
+    met, fault = damage.check(given.engine, given.oracle, lines, given.log_rows)
+    if fault is None:
+        return met, damaged_driver(given, lines)[1]
+    still = damage.well_formed(lines, given.log_rows)
+    return met, "%s; without the malformed lines: %s" % (
+        fault, shorten.report(FOLDER, "damaged", still, given.engine, given.oracle))
+
+
+def compare_damaged(given, check):
+    """The first fault in damaged lines, or else the reasons for which none of them was malformed."""
+    count = given.calls // 20 if given.damaged is None else given.damaged
+    source, met, fault = damage.texts(given.seed + 2), Counter(), None
+    while sum(met.values()) < count and fault is None:
+        try:
+            found, fault = check(given, next(source))
+        except programs.Crash as crash:
+            found, fault = Counter(), str(crash)
+        met += found
+    table.damaged(met, forms.REASONS)
+    if fault is not None:
+        return [fault]
+    unmet = [why.decode() for why in forms.REASONS if count and not met[why]]
+    return ["no damaged line was malformed for the reason `%s`" % why for why in unmet]
 
 
 def try_liars(given):
@@ -171,24 +195,25 @@ def compare_single(given):
 def compare(given):
     """The faults of all the parts."""
     started = time.time()
-    faults = compare_main(given) + compare_single(given)
-    damaged = given.calls // 20 if given.damaged is None else given.damaged
-    counts, fault = compare_damaged(given, given.seed + 2, damaged)
-    print("== damaged lines\n%d malformed and %d well-formed lines were told apart" % (counts[1], counts[0]))
-    faults += [] if fault is None else [fault]
+    faults = compare_main(given) + compare_single(given) + compare_damaged(given, damaged_both)
     meant = differences.check(given)
     print("== meant differences\n%d scenarios, %d not as written" % (differences.count(), len(meant)))
-    faults += meant + try_liars(given)
+    wrong = ends.check(given.engine)
+    print("== how runs end\n%d ends, %d not as written" % (ends.count(), len(wrong)))
+    faults += meant + wrong + try_liars(given)
     print("Took %d seconds." % (time.time() - started))
     return faults
 
 
 def main():
     given = options()
-    for path in (given.engine, given.oracle, given.unchanged):
+    for path in [given.oracle] if given.driver else [given.engine, given.oracle, given.unchanged]:
         if not os.access(path, os.X_OK):
             sys.exit("There is no program at %s." % path)
-    faults = try_liars(given) if given.liars else compare(given)
+    if given.driver:
+        faults = compare_damaged(given, damaged_driver)
+    else:
+        faults = try_liars(given) if given.liars else compare(given)
     for fault in faults:
         print("difference: " + fault)
     print("no difference" if not faults else "%d differences" % len(faults))

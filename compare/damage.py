@@ -1,18 +1,34 @@
-"""Damaged lines: takes valid lines, damages bytes or stretches them past the limits, and demands that the
-engine answers `malformed` to exactly those that forms.py calls so, and answers the others as the model and the
-Rust do, which see no malformed line."""
+"""Damaged lines: takes valid lines, damages bytes or words or stretches them past the limits, and demands that the
+engine answers `malformed` with the word and the reason of forms.py to exactly those that forms.py calls so, and
+answers the others as the model and the Rust do, which see no malformed line. The Rust's driver, which reads lines
+too, is held to forms.py by itself."""
 
 import random
+from collections import Counter
 
+import forms
 import judge
 import programs
 import scenarios
-from forms import LINE, malformed, passed_over
 from reread import reread
 from scenario import lines
+from scenario.words import cost, order, quote, weight
 
 BYTES = b"0123456789abcdefghijklmnopqrstuvwxyz:/-_ #+.ABCDEF\t\r\0\x7f\x80\xff"
 GOOD = "3ff0000000000000"
+ORDER, QUOTE, WEIGHT, COST = ("mb", 1, 1.0, None), (1, 1.0, 1.0, 5), (1, 1.0), ("flat", 1.0)
+# A line of each form, so that every text has them all; `clock` has no place in a compared text.
+EVERY_FORM = [
+    "quiet", lines.new(4, [COST], [QUOTE]), lines.lend(4), lines.amount("deposit", 1.0), lines.order("send", ORDER),
+    lines.send_list(4, [ORDER, ORDER]), lines.delete(0), lines.check([QUOTE], [QUOTE]), lines.walk(4, [WEIGHT]),
+    lines.update(4, [QUOTE], [QUOTE], [WEIGHT]), lines.read("get_quote", 1), lines.read("get_quotes", 4),
+    lines.read("turnover"), lines.figures("trade_impact_total", 1.0, 1.0, "buy"),
+    lines.figures("calculate_trade_costs", 1.0, 1.0)]
+# One malformed line for each reason; limits() has those of too many rows and of a line that is too long.
+EVERY_REASON = [line.encode() for line in (
+    "buy", "deposit", "clock 1", "deposit 1.0", "delete -1", "lend 18446744073709551616",
+    "trade_impact_total %s %s hold" % (GOOD, GOOD), "send mb:1:%s" % GOOD, "check 1:%s /" % GOOD, "walk 4 1",
+    "new 4 pct:%s /" % GOOD, "state\t", "state\r")]
 
 
 def bent(rng, line):
@@ -55,33 +71,78 @@ def reworded(rng, line):
     return (b" " * rng.choice([1, 1, 1, 2])).join(words)
 
 
-ODD_WORDS = [w.encode() for w in (
-    "/", "-", "", "0", "00000000000000000000", "18446744073709551615", "18446744073709551616", "1025", "1024",
-    "99999999999999999999", "000000000000000000001", "4294967295", "4294967296", "-1", "+1", "0x1", "1e5", GOOD,
-    GOOD.upper(), "3FF0000000000000", "3ff000000000000", "3ff00000000000000", "buy", "sell", "Buy", "nan", "none",
-    "mb:1:%s:-" % GOOD, "mb:1:%s" % GOOD, "mb:1:%s:" % GOOD, "xx:1:%s:-" % GOOD, "mb:4294967296:%s:-" % GOOD,
-    "1:%s:%s:-9223372036854775808" % (GOOD, GOOD), "1:%s:%s:-9223372036854775809" % (GOOD, GOOD),
-    "1:%s:%s:9223372036854775807" % (GOOD, GOOD), "1:%s:%s:9223372036854775808" % (GOOD, GOOD),
-    "1:%s:%s:-0" % (GOOD, GOOD), "1:%s:%s:--1" % (GOOD, GOOD), "1:%s:%s:-" % (GOOD, GOOD), "1:%s" % GOOD,
-    "flat:%s" % GOOD, "flat:%s:" % GOOD, "per_share:%s" % GOOD, "pct:%s" % GOOD)]
+def reparted(rng, line):
+    """A line with parts of a word, between its colons, dropped, doubled or exchanged for other sorts of parts."""
+    words = line.split(b" ")
+    at = rng.randrange(len(words))
+    parts = words[at].split(b":")
+    for _ in range(rng.choice([1, 1, 2])):
+        which = rng.randrange(len(parts))
+        choice = rng.randrange(8)
+        if choice == 0 and len(parts) > 1:
+            del parts[which]
+        elif choice == 1:
+            parts.insert(which, parts[which])
+        else:
+            parts[which] = rng.choice(ODD_PARTS)
+    words[at] = b":".join(parts)
+    return b" ".join(words)
 
 
-def stretched(rng):
-    """A line at one of the limits, or one past it."""
-    more = rng.choice([0, 0, 1])
-    rows = [(symbol, 1.0, 1.0, 5) for symbol in range(512 + more)]
-    weights = [(symbol, 1.0) for symbol in range(512 + more)]
-    orders = [("mb", 1, 1.0, None)] * (1024 + more)
-    costs = [("flat", 1.0)] * (32 + more)
-    unknown = "x" * rng.choice([LINE, 70000])
-    return rng.choice([
-        lambda: lines.check(rows, []), lambda: lines.check([], rows),
-        lambda: lines.new(4, costs, []), lambda: lines.new(4, [], rows),
-        lambda: lines.send_list(1024, orders), lambda: lines.send_list(1024 + more, []),
-        lambda: lines.walk(1024, weights), lambda: lines.walk(1024 + more, []),
-        lambda: lines.update(1024, [], [], weights), lambda: lines.update(1024, rows, [], []),
-        lambda: lines.update(1024 + more, [], [], []), lambda: lines.read("get_quotes", 1024 + more),
-        lambda: "state " + " " * (LINE - 7 + more), lambda: unknown])().encode()
+def respaced(rng, line):
+    """A line with a tab or a carriage return for a space, or at a word's end."""
+    mark = rng.choice([b"\t", b"\r", b"\r", b"\t\r", b"\r\t"])
+    if rng.random() < 0.3:
+        return line.replace(b" ", mark, rng.choice([1, 1, -1]))
+    words = line.split(b" ")
+    words[rng.randrange(len(words))] += mark
+    return b" ".join(words)
+
+
+ODD_PARTS = [part.encode() for part in (
+    "", "-", "x", "0", "-0", "-1", "+1", "--1", "0x1", "1e5", "mb", "xx", "MB", "flat", "pct", GOOD, GOOD.upper(),
+    GOOD[1:], GOOD + "0", "4294967295", "4294967296", "9223372036854775807", "9223372036854775808",
+    "-9223372036854775808", "-9223372036854775809", "18446744073709551615", "18446744073709551616",
+    "99999999999999999999", "00000000000000000000", "000000000000000000001", "-00000000000000000001",
+    "-000000000000000000001")]
+ODD_WORDS = ODD_PARTS + [word.encode() for word in (
+    "/", "1024", "1025", "65536", "65537", "1048576", "1048577", "buy", "sell", "Buy", "nan", "none", "1:%s" % GOOD,
+    "1:%s:%s:5" % (GOOD, GOOD), "mb:1:%s:-" % GOOD, "flat:%s" % GOOD, "per_share:%s" % GOOD)]
+
+
+def damaged(rng, line):
+    """A line as it is, or damaged once or twice."""
+    for _ in range(rng.choices((0, 1, 2), (18, 62, 20))[0]):
+        line = rng.choices((bent, reworded, reparted, respaced), (10, 6, 4, 2))[0](rng, line)
+    return line
+
+
+def full_lists(rng):
+    """Lines with as many rows in a list as there may be, and with a word more in it: a row, or another."""
+    for head, row, most, rest in (
+            ("send_list 1024", order(ORDER), 1024, ""), ("walk 1024", weight(WEIGHT), 512, ""),
+            ("new 4", cost(COST), 32, " /"), ("new 4 /", quote(QUOTE), 512, ""),
+            ("check", quote(QUOTE), 512, " /"), ("check /", quote(QUOTE), 512, ""),
+            ("update 1024", quote(QUOTE), 512, " / /"), ("update 1024 /", quote(QUOTE), 512, " /"),
+            ("update 1024 / /", weight(WEIGHT), 512, "")):
+        other = rng.choice(["/", "x", row + "\t", row + "\r", row + " x"])
+        for more in ("", " " + row, " " + other):
+            yield head + (" " + row) * most + more + rest
+
+
+def long_lines():
+    """Lines of as many bytes as there may be, and of more; each is filled up with its last byte."""
+    for start in ("state ", "# ", "  ", "deposit\tx", "x"):
+        for length in (forms.LINE, forms.LINE + 1, 70000):
+            yield start.ljust(length, start[-1])
+
+
+def limits(rng):
+    """Lines at the limits, and past them."""
+    rooms = ("send_list %d", "walk %d", "update %d / /", "get_positions %d", "get_quotes %d", "get_holdings %d",
+             "get_pending_orders %d", "get_trade_costs %d")
+    texts = [line % room for line in rooms for room in (forms.ROOM, forms.ROOM + 1)]
+    return [line.encode() for line in [*texts, *full_lists(rng), *long_lines()]]
 
 
 def texts(seed):
@@ -89,7 +150,7 @@ def texts(seed):
     rng = random.Random(seed)
     source = scenarios.scenarios(seed)
     while True:
-        valid = ["quiet"]
+        valid = list(EVERY_FORM)
         while len(valid) < 500:
             valid += [line for line in next(source)[1].lines if len(line) < 4000]
         yield damaged_text(rng, valid, 4000)
@@ -97,51 +158,60 @@ def texts(seed):
 
 def damaged_text(rng, valid, count):
     """Lines, most of them damaged; a state follows now and then."""
-    out = []
-    for _ in range(count):
-        line = rng.choice(valid).encode()
-        choice = rng.random()
-        if choice < 0.5:
-            line = bent(rng, line)
-        elif choice < 0.85:
-            line = reworded(rng, line)
-        elif choice < 0.87:
-            line = stretched(rng)
-        out.append(line)
+    out = [damaged(rng, rng.choice(valid).encode()) for _ in range(count)] + EVERY_REASON + limits(rng)
+    rng.shuffle(out)
     return out
 
 
 def well_formed(given, rows):
-    """The lines that have an answer, as text."""
-    return [line.decode() for line in given if not passed_over(line) and not malformed(line, rows)]
+    """The lines that are to be answered otherwise than by `malformed`, as text."""
+    return [line.decode() for _number, line, why in forms.answered(given, rows) if why is None]
 
 
-def answers(engine, oracle, given, rows):
-    """What both programs say to these lines; the Rust's driver sees a comment in each malformed line's place."""
-    kept = [b"#" if passed_over(line) or malformed(line, rows) else line for line in given]
-    return [judge.blocks(programs.answers(program, b"\n".join(text)))
-            for program, text in ((engine, given), (oracle, kept))]
+def answers(program, given):
+    return judge.blocks(programs.answers(program, b"\n".join(given)))
+
+
+def held(found, blocks, judged):
+    """Holds a program's answers to the lines that were found, those to well-formed lines by `judged`. How many lines
+    were malformed for each reason, and well-formed (None); what is wrong at the first wrong answer, or None."""
+    met, blocks = Counter(), iter(blocks)
+    for number, line, why in found:
+        try:
+            text = judge.said(next(blocks, b""), number)
+            if why is None:
+                judged(number, line, text)
+            elif text != b"malformed " + why:
+                raise judge.Difference("`malformed %s` is due, there is %r" % (why.decode(), text[:100]))
+        except judge.Difference as difference:
+            return met, "damaged line %d, %r: %s" % (number, line[:300], difference)
+        met[why and why.partition(b" ")[2]] += 1
+    extra = next(blocks, None)
+    return met, None if extra is None else "there is an answer to no line: %r" % extra[:100]
 
 
 def check(engine, oracle, given, rows):
-    """How many lines were well-formed and how many malformed; what is wrong at the first wrong answer, or
-    None. forms.py says which are malformed; the others are judged like those of any scenario."""
-    one, other = map(iter, answers(engine, oracle, given, rows))
-    due = iter(reread(well_formed(given, rows)).due)
+    """Holds the engine's malformed lines to forms.py and judges its other answers like those of any scenario. The
+    Rust's driver is given a comment in each malformed line's place."""
+    found = forms.answered(given, rows)
+    kept = [b"#"] * len(given)
+    for number, line, why in found:
+        if why is None:
+            kept[number - 1] = line
+    due, other = iter(reread(well_formed(given, rows)).due), iter(answers(oracle, kept))
     judging = judge.Judge(judge.Tally())
-    counts = [0, 0]
-    for number, line in enumerate(given, 1):
-        if passed_over(line):
-            continue
-        must = malformed(line, rows)
-        try:
-            text = judge.said(next(one, b""), number)
-            if must and text != b"malformed":
-                raise judge.Difference("malformed is due, there is %r" % text[:100])
-            if not must:
-                judging.line(line.decode(), next(due), text, judge.said(next(other, b""), number))
-        except judge.Difference as difference:
-            return counts, "damaged line %d, %r: %s" % (number, line[:300], difference)
-        counts[must] += 1
-    extra = next(one, None)
-    return counts, None if extra is None else "there is an answer to no line: %r" % extra[:100]
+
+    def judged(number, line, text):
+        judging.line(line.decode(), next(due), text, judge.said(next(other, b""), number))
+
+    return held(found, answers(engine, given), judged)
+
+
+def check_driver(oracle, given):
+    """Holds the Rust's driver to forms.py; what it answers to well-formed lines is not looked at."""
+
+    def judged(_number, _line, text):
+        if text.startswith(b"malformed"):
+            raise judge.Difference("it is well-formed, there is %r" % text[:100])
+
+    return held(forms.answered(given, forms.DRIVER_ROWS), answers(oracle, given), judged)

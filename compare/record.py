@@ -1,8 +1,9 @@
 """Records the answers that the gate replays: runs the engine and the Rust on crates/rehearse/stdin and
 writes crates/rehearse/stdout, and the lists at the end of docs/RECORDED.md. A line's answer is the Rust's
 until an added number is due or the Rust panics; from there to the next `new` it rests on document 01 alone,
-by model.py, which the engine must equal on every line. Exit status 1 where the engine differs from either, or,
-with --check, where the files are not what would be written."""
+by model.py, which the engine must equal on every line. Which lines are malformed, and why, is said by forms.py.
+Exit status 1 where the engine differs from one of them, or, with --check, where the files are not what would be
+written."""
 
 import argparse
 import os
@@ -48,36 +49,43 @@ class Recording:
             self.silent.setdefault(drawn, []).append(number)
 
 
-def answered(text):
-    """The lines that have an answer, each with its number."""
-    lines = enumerate(text.split(b"\n"), 1)
-    return [(number, line) for number, line in lines if not forms.passed_over(line)]
+def run(program, lines):
+    """A program's answers to these lines, by number."""
+    numbers = [number for number, _line, _why in forms.answered(lines, LOG_ROWS)]
+    blocks = judge.blocks(programs.answers(program, b"\n".join(lines)))
+    if len(blocks) != len(numbers):
+        raise judge.Difference("%s answers %d lines of %d" % (program, len(blocks), len(numbers)))
+    return dict(zip(numbers, blocks))
 
 
-def run(program, text, lines):
-    """A program's answer to each of these lines."""
-    blocks = judge.blocks(programs.answers(program, text))
-    if len(blocks) != len(lines):
-        raise judge.Difference("%s answers %d lines of %d" % (program, len(blocks), len(lines)))
-    return blocks
+def for_driver(lines):
+    """The lines, with a comment for each whose LOG only the engine refuses: the Rust's driver takes any WHOLE."""
+    own = {number: why for number, _line, why in forms.answered(lines, forms.DRIVER_ROWS)}
+    given = list(lines)
+    for number, _line, why in forms.answered(lines, LOG_ROWS):
+        if why != own[number]:
+            given[number - 1] = b"#"
+    return given
 
 
 def record(text, engine, oracle):
-    """The recording; raises Difference where the engine differs from the oracle or the model."""
-    lines = answered(text)
+    """The recording; raises Difference where the engine differs from forms.py, the oracle or the model."""
+    lines = text.split(b"\n")
+    found = forms.answered(lines, LOG_ROWS)
+    ones, others = run(engine, lines), run(oracle, for_driver(lines))
     recording = Recording()
     judging = judge.Judge(judge.Tally())
-    dues = iter(reread([line.decode() for _number, line in lines if not forms.malformed(line, LOG_ROWS)]).due)
-    for (number, line), one, other in zip(lines, run(engine, text, lines), run(oracle, text, lines)):
-        decided = True
-        if forms.malformed(line, LOG_ROWS):
-            if one != b"%d malformed" % number:
-                raise judge.Difference("line %d is malformed" % number)
-        else:
+    dues = iter(reread([line.decode() for _number, line, why in found if why is None]).due)
+    for number, line, why in found:
+        # To a line that the driver is not given there is the engine's answer alone.
+        one, other, decided = ones[number], others.get(number, ones[number]), True
+        if why is None:
             decided = judged(recording, judging, number, line.decode(), next(dues), one, other)
+        elif one != b"%d malformed %s" % (number, why):
+            raise judge.Difference("line %d: `malformed %s` is due" % (number, why.decode()))
         if decided and one != other:
             raise judge.Difference("line %d: the answers or states differ" % number)
-        recording.add(number, other if decided else one, decided)
+        recording.add(number, one, decided)
     return recording
 
 

@@ -1,11 +1,11 @@
 #!/bin/sh
 # Compares the engine with the Rust and with document 01's model, by compare.py, which takes the same options.
-# Builds what is out of date; the engine not, where --engine or REHEARSE names one.
+# Builds what is out of date; the engine not, where --engine or REHEARSE names one, or --driver wants none.
 set -eu
 root=$(cd "$(dirname "$0")/.." && pwd)
 [ -z "${REHEARSE:-}" ] || set -- --engine "$REHEARSE" "$@"
 case " $* " in
-*" --engine"*) parts=oracle ;;
+*" --engine"* | *" --driver "*) parts=oracle ;;
 *) parts="oracle engine" ;;
 esac
 # In the background, since a shell that is interrupted waits for what it runs in front.

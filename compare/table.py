@@ -43,3 +43,10 @@ def summary(name, tally):
     if tally.beyond:
         numbers_table("From the stops on, compared with document 01's model alone (%d lines of state):" %
                       tally.model_lines, tally.beyond)
+
+
+def damaged(met, reasons):
+    """Damaged lines by the reason for which they are malformed; None counts the well-formed ones."""
+    print("== damaged lines\n%d malformed and %d well-formed lines were told apart" % (
+        sum(met[why] for why in reasons), met[None]))
+    print("By reason: " + ", ".join("%s %d" % (why.decode(), met[why]) for why in reasons))

@@ -39,7 +39,8 @@ def explain(call, answer, before, expected):
         print(f"  line {at}: {name} is not answered")
         return False
     if answer.call == "malformed":
-        print(f"  line {at:>2}: {name}\n           {' '.join(['Malformed', *answer.words])}.")
+        word, *reason = answer.words
+        print(f"  line {at:>2}: {name}\n           Malformed at word {word}: {' '.join(reason)}.")
         return begins.startswith("malformed")
     became_failed = before is not None and (before.state(), answer.state()) == ("Ready", "Failed")
     unchanged = before is not None and answer.holds != {} and held(before) == held(answer)

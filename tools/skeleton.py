@@ -2,6 +2,7 @@
 """skeleton.py: print what a proof by derivation starts from, for functions over slices of structs or references to structs. Run it in the repository.
 
     skeleton.py CRATE FN                        the proof file of FN, a function's path below its crate, as uist/check
+    skeleton.py CRATE FN --tables               the same, with the table written out wherever all that was lent is back
     skeleton.py --callees CRATE FN ..           the stanzas of the covered functions that FN calls, but for those that stand in a file
     skeleton.py --callees CRATE KEY ..          the stanzas of the functions with these keys; KEY=NAME names one otherwise
     skeleton.py --callees CRATE                 a file with the stanzas of all covered functions that the crate's derivations call
@@ -16,8 +17,10 @@ prints the stanza that crates/lent/proofs/Callees.antt has of that function. (KE
 but for their keys: of these the lemma alone is printed.) A callee that is proved by hand itself has its stanza in the proof file of its caller.
 
 The derivation has one line for each statement of the function's MIR (`rt mir CRATE`): what is live is dropped where the code leaves, what is lent
-comes back after the call (a slice, whole or its first rows, a local struct, the first rows of a local array).
+comes back after the call (a slice, whole or its first rows, an array of bytes behind a reference, a local struct, the first rows of a local array).
 What is not known is written TODO: the contract, a loop's invariant and measure, and the condition, `asked`, which is a hole.
+A long derivation, and a loop in which something is lent, want their tables written out: the steps that follow are then compared with what is written
+and not with what the steps before them computed.
 A row type is written by its struct's name in small letters (`OrderEvent`: order-event), as the crate's Rows.antt is to name it.
 Nothing depends on this file: the prover checks what it printed like any other text.
 """
@@ -57,8 +60,15 @@ def written(ty):
     if ty[0] == "tyArray":
         return "(tyArray (ty %s) %s)" % (kin(ty[1]), ty[2][1])
     if ty[0] == "tyRef":
-        return pointer(ty)
+        return pointer_in(ty)
+    if is_slice(ty):
+        return "(sliceTy %s)" % pointer(reference(ty))
     return "(ty %s)" % kin(ty) if ty[0] == "tyNamed" else "TODO"
+
+
+def referent(ref):
+    """What a reference is to, as the steps take it."""
+    return "(Bytes %s)" % ref[3][2][1] if is_bytes(ref) else "(R %s)" % kin(ref[3])
 
 
 def reference(ty):
@@ -75,11 +85,18 @@ def is_slice(ty):
 def pointer_in(ref):
     """The type of the pointer by which a local array or a slice is lent."""
     array = ref[3]
-    return "(arrTo %s %s %s)" % (kin(array[1]), array[2][1], ref[2]) if array[0] == "tyArray" else pointer(ref)
+    return "(arrTo %s %s %s)" % (kin(array[1]), array[2][1], ref[2]) if array[0] == "tyArray" and not is_bytes(ref) else pointer(ref)
+
+
+def is_bytes(ref):
+    """Whether a reference is to an array of bytes."""
+    return ref is not None and ref[3][0] == "tyArray" and ref[3][1] == ["tyInt", "8"]
 
 
 def pointer(ref):
-    """The type of a reference's pointer: `shrTy s k`, `mutTy s k` or, of a loan, `ptrTo s mut erased`."""
+    """The type of a reference's pointer: `shrTy s k`, `mutTy s k` or, of a loan, `ptrTo s mut erased`; to an array of bytes `bytesTo N mut (named k)`."""
+    if is_bytes(ref):
+        return "(bytesTo %s %s %s)" % (ref[3][2][1], ref[2], "(named %s)" % ref[1][1] if isinstance(ref[1], list) else "erased")
     life, mutability, row = ref[1], ref[2], kin(ref[3])
     if isinstance(life, list):
         return "(%s %s %s)" % ("shrTy" if mutability == "imm" else "mutTy", row, life[1])
@@ -97,7 +114,7 @@ def pointer_counts(code):
 # ---- the derivation
 
 class Derivation:
-    def __init__(self, fn, called_ones):
+    def __init__(self, fn, called_ones, with_tables):
         self.lifetimes, self.params = lifetimes(fn), params(fn)
         self.locals = types(fn)
         self.callees = called_ones  # in the order of the calls
@@ -109,6 +126,8 @@ class Derivation:
         self.parts = {}  # a loan of a slice's first rows, and its pointer: "-part"
         self.loans = 0  # the most loans at a time
         self.heads = []  # the table at each loop's head
+        self.tables = [] if with_tables else None  # the tables where all that was lent is back
+        self.begun = 0  # the slots that have begun for loans that are not made yet
 
     # what a local is, as the steps ask it
 
@@ -196,7 +215,15 @@ class Derivation:
         kn = "kn" if len(self.callees) == 1 else "(kn .%d)" % which
         step = "calls %s %s %s (%s) %d %s %s refl" % (self.callees[which].term(), kn, "(%s)" % slots if passed else "[]", " & ".join([self.argument(a) for a in args] + ["no-more"]), x, self.free(x), known)
         self.live.add(x)
-        return [step] + [s for n in passed if n in self.lent for s in self.back(n)]
+        returned = [s for n in passed if n in self.lent for s in self.back(n)]
+        return [step] + returned + (self.table() if returned and not self.lent else [])
+
+    def table(self):
+        """The table here, written out."""
+        if self.tables is None:
+            return []
+        self.tables.append(self.head())
+        return ["at (record { locals = T%d; slots = SLOTS })" % len(self.tables)]
 
     def back(self, n):
         """A loan is over: what was lent holds what the callee left."""
@@ -204,7 +231,10 @@ class Derivation:
         lent, beta = self.lent.pop(n)
         loan, row = reference(self.locals[n]), kin(reference(self.locals[n])[3])
         before = []
-        if not is_slice(self.locals[n]):
+        if is_bytes(loan) and lent != n and reference(self.locals[lent]) is not None:
+            mine = reference(self.locals[lent])
+            step = "back-ref %s %s %s %d %d %s %s %s same same refl refl" % (referent(loan), self.slot(lent), beta, n, lent, pointer(mine), pointer(loan), self.lease(lent))
+        elif not is_slice(self.locals[n]):
             step = "home %s %s %d %d %s same same refl" % (row, beta, n, lent, pointer(loan))
         elif loan[2] == "imm":
             before = ["drop %d (freeS %s %s)" % (n, row, beta)]
@@ -256,20 +286,23 @@ class Derivation:
             self.into[x] = (n, None)
             return ["addrs %d %d %s refl" % (x, n, self.free(x))]
         beta = self.lifetimes + len(self.lent)
-        begins = "begins %d (units %d)" % (beta, len(self.locals))
+        begins = ["begins %d (units %d)" % (self.lifetimes + k, len(self.locals)) for k in range(len(self.lent) + self.begun, len(self.lent) + self.ahead)]
+        self.begun += len(begins) - 1
         self.lent[x] = (n, beta)
         self.loans = max(self.loans, len(self.lent))
         if items(place[2]):
-            return [begins, self.relend(x, n, beta)]
+            return begins + [self.relend(x, n, beta)]
         if self.locals[n][0] == "tyArray":
             array = self.locals[n]
             verb = "shares-array" if ty[2] == "imm" else "lends-array"
-            return [begins, "%s %s %s %s %d %d %s %s same %s refl (λ i j. tt) (fits-array %s %s)" % (verb, kin(array[1]), array[2][1], beta, n, x, pointer_in(ty), self.count(x), self.free(x), kin(array[1]), array[2][1])]
-        return [begins, "lends %s %s %d %d %s (lentV %s) %s refl (λ i j. tt)" % (kin(ty[3]), beta, n, x, pointer(ty), kin(ty[3]), self.free(x))]
+            return begins + ["%s %s %s %s %d %d %s %s same %s refl (λ i j. tt) (fits-array %s %s)" % (verb, kin(array[1]), array[2][1], beta, n, x, pointer_in(ty), self.count(x), self.free(x), kin(array[1]), array[2][1])]
+        return begins + ["lends %s %s %d %d %s (lentV %s) %s refl (λ i j. tt)" % (kin(ty[3]), beta, n, x, pointer(ty), kin(ty[3]), self.free(x))]
 
     def relend(self, x, n, beta):
         """A slice is lent on: whole, or its first rows; as `&mut`, or as `&`."""
         mine, ty = reference(self.locals[n]), self.locals[x]
+        if is_bytes(mine):
+            return "relends-ref %s %s %s %d %d (tyArray (tyInt w8) %s) %s %s same %s tt refl refl (λ i j. tt)" % (referent(mine), self.slot(n), beta, n, x, mine[3][2][1], pointer(mine), pointer(ty), self.free(x))
         whole = self.counts.get(x, ["copy"])[0] == "copy" and items(self.counts[x][1][2]) != []
         verb = "reshares-part" if ty[2] == "imm" else "relends" if whole else "relends-part"
         if verb != "relends":
@@ -340,7 +373,7 @@ class Derivation:
                 rows.append("any-gone %s" % written(ty))
             elif ref is not None:
                 form = "mref" if not is_slice(ty) else "sslice" if ref[2] == "imm" else "mslice"
-                rows.append("%s (R %s) %s %s" % (form, kin(ref[3]), pointer(ref), self.slot(n)))
+                rows.append("%s %s %s %s" % (form, referent(ref), pointer(ref), self.slot(n)))
             elif scalar(ty):
                 rows.append("sc-here %s" % scalar(ty))
             elif ty[0] == "tyArray":
@@ -379,8 +412,24 @@ class Derivation:
             out = self.code(way, head)
             self.live = before
             return "%s %s flag refl (%s) (\n    %s)" % (step, first[1][1][1], out.replace("\n    ", ""), self.code(rest, head))
+        self.ahead = loans_before_call(body, self.locals)
         steps = self.call(first) if first[0] == "call" else self.assign(first)
         return self.nest(steps, self.code(rest, head))
+
+
+def loans_before_call(code, types):
+    """How many loans are made from here to the call that they are made for. Their slots all begin before the first: a slot is new to a table in which
+    nothing is lent."""
+    made = set()
+    while isinstance(code, list) and code[0] == "seq":
+        first, code = code[1], code[2]
+        if first[0] == "assign" and first[2][0] == "addrOf" and types[int(first[1][1])] != "tyPtr":
+            made.add(int(first[1][1]))
+        if first[0] == "assign" and first[2][0] == "aggregate":
+            made |= {int(first[1][1]) for part in items(first[2][1]) if part[0] == "copy" and int(part[1][1]) in made}
+        if first[0] == "call" and any(arg[0] == "copy" and int(arg[1][1]) in made for arg in items(first[2])):
+            break
+    return len([n for n in made if not is_slice(types[n])])
 
 
 # ---- the file
@@ -403,10 +452,22 @@ unfolding code.routine
     closes contract w code.env name code.function (code.unfolded 𝓤 H 𝓜 𝓡) (runs goal derived asked (under w code.env) %s)""" % (spec, spec, knows)
 
 
-def declarations(fn, found):
+AT = """-- the table where a step stands, written out
+abbrev at : {w : Wd} {b : Body} {Δ : Outs} (Γ : Cx) → Dv w Γ b Δ → Dv w Γ b Δ
+at Γ d = d"""
+
+
+def slots(derivation):
+    """The slots where nothing is lent."""
+    paths = [" .1" * k + " .0" for k in range(derivation.lifetimes)]
+    return " ∷ ".join(["lease (κs%s) (qs%s)" % (path, path) for path in paths] + ["off"] * derivation.loans + ["[]"])
+
+
+def declarations(fn, found, with_tables):
     """What stands before the theorem."""
-    derivation = Derivation(fn, found)
+    derivation = Derivation(fn, found, with_tables)
     code = derivation.code(body(fn), set())
+    code = code.replace("SLOTS", slots(derivation))
     parts = ["abbrev U : Sc\nU = sInt w64"]
     if re.search(r"\bF\b", code):
         parts.append("abbrev F : Sc\nF = sFloat binary64")
@@ -415,16 +476,23 @@ def declarations(fn, found):
     parts.append("abbrev Kn : Base → Type 1\nKn o = %s" % (" × ".join("Knows %s o" % callee.term() for callee in found) or "NoCalls o"))
     parts.append("abbrev goal : Task\ngoal = task contract %d code.function Kn" % derivation.loans)
     parts += ["-- the locals at the loop's head\nabbrev Hd : List Entry\nHd = %s" % head for head in derivation.heads]
+    for k, table in enumerate(derivation.tables or []):
+        parts.append("abbrev T%d : List Entry\nT%d = %s" % (k + 1, k + 1, table))
+    parts += [AT] if derivation.tables else []
     parts.append("abbrev derived : Derives goal\nderived o kn κs qs bs =\n    %s" % code)
     return parts + ["asked : Owes goal derived\nasked o kn κs qs a good pre bs = ?"]
 
 
-def proof(crate, path):
+def proof(crate, path, with_tables):
     """The proof file of a function to start from."""
     fn = function(crate, path)
     found = callees(crate, called(fn))
-    text = "\n\n".join(declarations(fn, found) + [theorem(path, [callee.known() for callee in found])])
+    text = "\n\n".join(declarations(fn, found, with_tables) + [theorem(path, [callee.known() for callee in found])])
     lines = ["-- `%s`: TODO" % path, steps_used(text)] + imports(found)
+    if "sliceTy" in text:
+        lines.append("use denote.Slice.{sliceTy}")
+    if AT in text:
+        lines += ["use mir.Syntax.{Body}", "use borrow.Table.Row.{Cx, off}", "use borrow.Table.Typed.{Outs}"]
     for part, how in (("Key", ".{name}"), ("Code", " as code"), ("Statement", ".{statement}")):
         lines.append("use Rattle.%s.proofs.%s.%s%s" % (crate, path.replace("/", "."), part, how))
     return "\n".join(lines) + "\n\n" + text
@@ -445,8 +513,8 @@ def main(words):
         check(words[1:])
     elif words[:1] == ["--callees"] and len(words) > 1:
         stanzas(words[1], words[2:])
-    elif len(words) == 2:
-        print(proof(*words))
+    elif len(words) == 2 or words[2:] == ["--tables"]:
+        print(proof(words[0], words[1], len(words) == 3))
     else:
         sys.exit(__doc__)
 

@@ -84,10 +84,10 @@ def unused_antt(text):
 
 
 def rust_used(name, code):
-    """A type by its name; a module or a function only before `::`, `(` or an operator of a contract."""
+    """A type by its name; a module, a function or a struct of C only before `::`, `(` or `{`."""
     if name[0].isupper():
         return re.search(r"(?<![.\w])%s\b" % re.escape(name), code) is not None
-    return re.search(r"(?<![.\w:])(?<!fn )%s\s*(?:::|\()" % re.escape(name), code) is not None
+    return re.search(r"(?<![.\w:])(?<!fn )%s\s*(?:::|\(|\{)" % re.escape(name), code) is not None
 
 
 def unused_rt(text):

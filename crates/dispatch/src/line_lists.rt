@@ -1,9 +1,12 @@
 // The lists of the line that was found: its tables and weights, its costs, its orders.
 use arrays::Lists;
+use calls::call;
 use calls::call::Call;
 use calls::list;
+use calls::verb::Verb;
 use costs::TradeCosts;
 use market::order::Order;
+use text::input;
 use text::input::Input;
 
 fn lists_in(line: &[u8], c: Call) -> Lists {
@@ -24,41 +27,53 @@ fn lists_in(line: &[u8], c: Call) -> Lists {
     }
 }
 
-// The rows of the line that was found.
-pub(crate) fn lists_of(x: Input, c: Call) -> Lists {
-    let bytes = x.bytes;
-    let start = x.start;
-    let end = x.end;
-    if start <= end {
-        if end <= 65536 {
-            return lists_in(&bytes[start..end], c);
-        }
-    }
-    lists_in(b"", c)
+// The tables and weights of the line that was found.
+pub(crate) fn lists_of(bytes: &[u8], x: Input, c: Call) -> Lists {
+    let w = input::line(x, bytes.len());
+    let from = w.from;
+    let to = w.to;
+    lists_in(&bytes[from..to], c)
 }
 
-pub(crate) fn costs_of(x: Input, c: Call) -> TradeCosts {
-    let bytes = x.bytes;
+fn costs_of(bytes: &[u8], x: Input, c: Call) -> TradeCosts {
     let costs = c.costs;
-    let start = x.start;
-    let end = x.end;
-    if start <= end {
-        if end <= 65536 {
-            return list::costs(&bytes[start..end], costs.at, costs.count);
-        }
-    }
-    TradeCosts::none()
+    let w = input::line(x, bytes.len());
+    let from = w.from;
+    let to = w.to;
+    list::costs(&bytes[from..to], costs.at, costs.count)
 }
 
-pub(crate) fn orders_of(x: Input, c: Call) -> [Order; 1024] {
-    let bytes = x.bytes;
+pub(crate) fn orders_of(bytes: &[u8], x: Input, c: Call) -> [Order; 1024] {
     let orders = c.orders;
-    let start = x.start;
-    let end = x.end;
-    if start <= end {
-        if end <= 65536 {
-            return list::orders(&bytes[start..end], orders.at, orders.count);
-        }
+    let w = input::line(x, bytes.len());
+    let from = w.from;
+    let to = w.to;
+    list::orders(&bytes[from..to], orders.at, orders.count)
+}
+
+// A call, with its tables, weights and costs.
+pub struct Job {
+    pub call: Call,
+    pub lists: Lists,
+    pub costs: TradeCosts,
+}
+
+// The call of the line that was found.
+pub fn job_of(bytes: &[u8], x: Input, c: Call) -> Job {
+    let lists = lists_of(bytes, x, c);
+    let costs = costs_of(bytes, x, c);
+    Job {
+        call: c,
+        lists: lists,
+        costs: costs,
     }
-    arrays::no_orders()
+}
+
+// No call yet.
+pub fn no_job() -> Job {
+    Job {
+        call: call::plain(Verb::Blank),
+        lists: lists_in(b"", call::plain(Verb::Blank)),
+        costs: TradeCosts::none(),
+    }
 }

@@ -1,7 +1,6 @@
 // The calls on lent lists that need no log: a list of orders, the walk, and the reads of the broker's
 // lists.
 use crate::line_lists;
-use crate::plain_calls::Done;
 use arrays::Orders;
 use arrays::clock;
 use arrays::read;
@@ -10,12 +9,31 @@ use broker::state::UistBroker;
 use calls::call::Call;
 use calls::verb::Verb;
 use report::list_answers;
-use text::input;
 use text::input::Input;
-use text::out::Head;
 
-pub(crate) fn send_list_call(b: UistBroker, x: Input, c: Call) -> Done {
-    let rows = line_lists::orders_of(x, c);
+// The broker after a call, the microseconds of processor time that the call took, and how many bytes
+// stand in the output's buffer once it is answered.
+pub struct Done {
+    pub broker: UistBroker,
+    pub micros: u64,
+    pub at: usize,
+}
+
+// The same of a call that changes nothing.
+pub struct Told {
+    pub micros: u64,
+    pub at: usize,
+}
+
+pub fn send_list_call(
+    out: &mut [u8; 65536],
+    at: usize,
+    b: UistBroker,
+    bytes: &[u8],
+    x: Input,
+    c: Call,
+) -> Done {
+    let rows = line_lists::orders_of(bytes, x, c);
     let orders = c.orders;
     let from = clock::now();
     let s = arrays::send_on(
@@ -29,62 +47,104 @@ pub(crate) fn send_list_call(b: UistBroker, x: Input, c: Call) -> Done {
     let micros = clock::since(from);
     let a = s.answer;
     let events = s.events;
-    list_answers::events(input::head_in(x, c), a.fault, events, orders.count);
+    let n = list_answers::events(out, at, a.fault, events, orders.count);
     let broker = a.broker;
     Done {
         broker: broker,
         micros: micros,
+        at: n,
     }
 }
 
-pub(crate) fn walk_call(b: UistBroker, x: Input, c: Call) -> Done {
-    let rows = line_lists::lists_of(x, c);
+fn walk_call(
+    out: &mut [u8; 65536],
+    at: usize,
+    b: UistBroker,
+    bytes: &[u8],
+    x: Input,
+    c: Call,
+) -> Told {
+    let rows = line_lists::lists_of(bytes, x, c);
     let from = clock::now();
     let s = arrays::walk_on(b, rows);
     let micros = clock::since(from);
     let a = s.answer;
     let orders = s.orders;
-    list_answers::orders(input::head_in(x, c), a.fault, orders, a.count);
-    Done {
-        broker: b,
+    Told {
         micros: micros,
+        at: list_answers::orders(out, at, a.fault, orders, a.count),
     }
 }
 
-fn positions(b: UistBroker, room: usize, head: Head) {
+fn positions(out: &mut [u8; 65536], at: usize, b: UistBroker, room: usize) -> usize {
     let x = read::positions_on(b, room);
     let a = x.answer;
     let rows = x.rows;
-    list_answers::positions(head, a.fault, rows, a.count);
+    list_answers::positions(out, at, a.fault, rows, a.count)
 }
 
-fn holdings(x: HoldingsRead, head: Head) {
+fn holdings(out: &mut [u8; 65536], at: usize, x: HoldingsRead) -> usize {
     let a = x.answer;
     let rows = x.rows;
-    list_answers::holdings(head, a.fault, rows, a.count);
+    list_answers::holdings(out, at, a.fault, rows, a.count)
 }
 
-fn quotes(b: UistBroker, room: usize, head: Head) {
+fn quotes(out: &mut [u8; 65536], at: usize, b: UistBroker, room: usize) -> usize {
     let x = read::quotes_on(b, room);
     let a = x.answer;
     let rows = x.rows;
-    list_answers::quotes(head, a.fault, rows, a.count);
+    list_answers::quotes(out, at, a.fault, rows, a.count)
 }
 
-fn trade_costs(b: UistBroker, room: usize, head: Head) {
+fn trade_costs(out: &mut [u8; 65536], at: usize, b: UistBroker, room: usize) -> usize {
     let x = read::costs_on(b, room);
     let a = x.answer;
     let rows = x.rows;
-    list_answers::costs(head, a.fault, rows, a.count);
+    list_answers::costs(out, at, a.fault, rows, a.count)
 }
 
-// Makes the read that the verb names, on a list of `room` rows, and answers it.
-pub(crate) fn read_list_call(b: UistBroker, verb: Verb, room: usize, head: Head) {
+// Makes the read that the call names, and answers it.
+fn read_call(out: &mut [u8; 65536], at: usize, b: UistBroker, c: Call) -> Told {
+    let v = c.verb;
+    let from = clock::now();
+    let n = match v {
+        Verb::GetPositions => positions(out, at, b, c.room),
+        Verb::GetHoldings => holdings(out, at, read::holdings_on(b, c.room)),
+        Verb::GetPendingOrders => holdings(out, at, read::pending_on(b, c.room)),
+        Verb::GetQuotes => quotes(out, at, b, c.room),
+        _ => trade_costs(out, at, b, c.room),
+    };
+    Told {
+        micros: clock::since(from),
+        at: n,
+    }
+}
+
+// Is this a call that changes nothing and is answered by a list?
+pub fn lists(c: Call) -> bool {
+    let verb = c.verb;
     match verb {
-        Verb::GetPositions => positions(b, room, head),
-        Verb::GetHoldings => holdings(read::holdings_on(b, room), head),
-        Verb::GetPendingOrders => holdings(read::pending_on(b, room), head),
-        Verb::GetQuotes => quotes(b, room, head),
-        _ => trade_costs(b, room, head),
+        Verb::Walk
+        | Verb::GetPositions
+        | Verb::GetQuotes
+        | Verb::GetHoldings
+        | Verb::GetPendingOrders
+        | Verb::GetTradeCosts => true,
+        _ => false,
+    }
+}
+
+pub fn listing_call(
+    out: &mut [u8; 65536],
+    at: usize,
+    b: UistBroker,
+    bytes: &[u8],
+    x: Input,
+    c: Call,
+) -> Told {
+    let v = c.verb;
+    match v {
+        Verb::Walk => walk_call(out, at, b, bytes, x, c),
+        _ => read_call(out, at, b, c),
     }
 }

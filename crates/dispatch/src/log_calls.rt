@@ -1,9 +1,8 @@
-// The calls that the log is lent to; those that need no log are handed on.
-use crate::line_lists;
-use crate::list_calls;
-use crate::plain_calls;
-use crate::plain_calls::Done;
+// The calls that the log is lent to.
+use crate::line_lists::Job;
+use crate::list_calls::Done;
 use arrays::CheckedList;
+use arrays::Lists;
 use arrays::UpdatedList;
 use arrays::clock;
 use broker::build::Built;
@@ -12,14 +11,24 @@ use broker::read::FloatRead;
 use broker::state::UistBroker;
 use calls::call::Call;
 use calls::verb::Verb;
+use costs::TradeCosts;
 use lent::uist;
 use market::trade::Trade;
 use report::answer;
 use report::list_answers;
-use text::input;
-use text::input::Input;
+use text::out;
 
-pub(crate) fn is_check(c: Call) -> bool {
+// Is the log lent to this call?
+pub fn needs_log(c: Call) -> bool {
+    let verb = c.verb;
+    match verb {
+        Verb::New | Verb::Check | Verb::Update | Verb::CostBasis | Verb::Turnover => true,
+        _ => false,
+    }
+}
+
+pub(crate) fn is_check(j: Job) -> bool {
+    let c = j.call;
     let verb = c.verb;
     match verb {
         Verb::Check => true,
@@ -27,7 +36,8 @@ pub(crate) fn is_check(c: Call) -> bool {
     }
 }
 
-pub(crate) fn is_update(c: Call) -> bool {
+pub(crate) fn is_update(j: Job) -> bool {
+    let c = j.call;
     let verb = c.verb;
     match verb {
         Verb::Update => true,
@@ -35,7 +45,8 @@ pub(crate) fn is_update(c: Call) -> bool {
     }
 }
 
-pub(crate) fn is_new(c: Call) -> bool {
+pub(crate) fn is_new(j: Job) -> bool {
+    let c = j.call;
     let verb = c.verb;
     match verb {
         Verb::New => true,
@@ -43,7 +54,8 @@ pub(crate) fn is_new(c: Call) -> bool {
     }
 }
 
-pub(crate) fn is_basis(c: Call) -> bool {
+pub(crate) fn is_basis(j: Job) -> bool {
+    let c = j.call;
     let verb = c.verb;
     match verb {
         Verb::CostBasis => true,
@@ -51,7 +63,8 @@ pub(crate) fn is_basis(c: Call) -> bool {
     }
 }
 
-pub(crate) fn is_turnover(c: Call) -> bool {
+pub(crate) fn is_turnover(j: Job) -> bool {
+    let c = j.call;
     let verb = c.verb;
     match verb {
         Verb::Turnover => true,
@@ -59,119 +72,110 @@ pub(crate) fn is_turnover(c: Call) -> bool {
     }
 }
 
-pub(crate) fn symbol_in(c: Call) -> u32 {
+pub(crate) fn symbol_in(j: Job) -> u32 {
+    let c = j.call;
     c.symbol
 }
 
-pub(crate) fn check_done(y: CheckedList, x: Input, c: Call) -> Done {
-    let a = y.answer;
-    answer::checked(input::head_in(x, c), a.fault, a.traded, a.queued);
-    let broker = a.broker;
+pub(crate) fn lists_in(j: Job) -> Lists {
+    j.lists
+}
+
+pub(crate) fn costs_in(j: Job) -> TradeCosts {
+    j.costs
+}
+
+pub fn broker_in(d: Done) -> UistBroker {
+    d.broker
+}
+
+// The broker, before a call is made on it.
+pub(crate) fn unchanged(b: UistBroker, at: usize) -> Done {
     Done {
-        broker: broker,
-        micros: y.micros,
+        broker: b,
+        micros: 0,
+        at: at,
     }
 }
 
-pub(crate) fn update_done(u: UpdatedList, x: Input, c: Call) -> Done {
+// The answer's line ends.
+fn ended(t: &mut [u8; 65536], at: usize, broker: UistBroker, micros: u64) -> Done {
+    Done {
+        broker: broker,
+        micros: micros,
+        at: out::put(t, at, b"\n"),
+    }
+}
+
+pub(crate) fn check_done(t: &mut [u8; 65536], at: usize, y: CheckedList) -> Done {
+    let a = y.answer;
+    let n = answer::checked(t, at, a.fault, a.traded, a.queued);
+    let broker = a.broker;
+    ended(t, n, broker, y.micros)
+}
+
+pub(crate) fn update_done(t: &mut [u8; 65536], at: usize, u: UpdatedList) -> Done {
     let a = u.answer;
     let events = u.events;
-    list_answers::updated(input::head_in(x, c), a.fault, a.total, events, a.sent);
+    let n = list_answers::updated(t, at, a.fault, a.total, events, a.sent);
     let broker = a.broker;
-    Done {
-        broker: broker,
-        micros: u.micros,
-    }
+    ended(t, n, broker, u.micros)
 }
 
-pub(crate) fn build_done(b: Built, x: Input, c: Call, from: i64) -> Done {
+pub(crate) fn build_done(t: &mut [u8; 65536], d: Done, b: Built, from: i64) -> Done {
     let micros = clock::since(from);
-    answer::worded(input::head_in(x, c), b.fault, b"built");
+    let n = answer::worded(t, d.at, b.fault, b"built");
     let broker = b.broker;
-    Done {
-        broker: broker,
-        micros: micros,
-    }
+    ended(t, n, broker, micros)
 }
 
-pub(crate) fn basis_done(d: Done, a: AmountRead, x: Input, c: Call, from: i64) -> Done {
+pub(crate) fn basis_done(t: &mut [u8; 65536], d: Done, a: AmountRead, from: i64) -> Done {
     let micros = clock::since(from);
-    answer::amount(input::head_in(x, c), a);
+    let n = answer::amount(t, d.at, a);
     let broker = d.broker;
-    Done {
-        broker: broker,
-        micros: micros,
-    }
+    ended(t, n, broker, micros)
 }
 
-pub(crate) fn turnover_done(d: Done, a: FloatRead, x: Input, c: Call, from: i64) -> Done {
+pub(crate) fn turnover_done(t: &mut [u8; 65536], d: Done, a: FloatRead, from: i64) -> Done {
     let micros = clock::since(from);
-    answer::float(input::head_in(x, c), a);
+    let n = answer::float(t, d.at, a);
     let broker = d.broker;
-    Done {
-        broker: broker,
-        micros: micros,
-    }
+    ended(t, n, broker, micros)
 }
 
-// The calls that need no log.
-pub(crate) fn other_call(d: Done, x: Input, c: Call) -> Done {
-    let verb = c.verb;
-    let b = d.broker;
-    match verb {
-        Verb::SendList => list_calls::send_list_call(b, x, c),
-        Verb::Walk => list_calls::walk_call(b, x, c),
-        Verb::Malformed => {
-            answer::bare(input::head_in(x, c));
-            d
-        }
-        Verb::Blank
-        | Verb::Check
-        | Verb::Update
-        | Verb::Lend
-        | Verb::State
-        | Verb::Quiet
-        | Verb::Full
-        | Verb::Clock => d,
-        _ => plain_calls::plain_call(b, c, input::head_in(x, c)),
+// A call that writes to the log; the others change nothing here.
+pub fn writing_call(
+    t: &mut [u8; 65536],
+    at: usize,
+    b: UistBroker,
+    j: Job,
+    log: &mut [Trade],
+) -> Done {
+    if is_check(j) {
+        let y = arrays::check_on(b, lists_in(j), log);
+        return check_done(t, at, y);
     }
+    if is_update(j) {
+        let y = arrays::update_on(b, lists_in(j), log);
+        return update_done(t, at, y);
+    }
+    unchanged(b, at)
 }
 
-// A call that writes to the log; the other calls change nothing here.
-pub fn writing_call(b: UistBroker, c: Call, x: Input, log: &mut [Trade]) -> Done {
-    if is_check(c) {
-        let lists = line_lists::lists_of(x, c);
-        let y = arrays::check_on(b, lists, log);
-        return check_done(y, x, c);
+// A call that reads the log; the others change nothing here.
+pub fn reading_call(t: &mut [u8; 65536], d: Done, j: Job, log: &[Trade]) -> Done {
+    let from = clock::now();
+    if is_new(j) {
+        let y = arrays::build_on(costs_in(j), lists_in(j), log);
+        return build_done(t, d, y, from);
     }
-    if is_update(c) {
-        let lists = line_lists::lists_of(x, c);
-        let y = arrays::update_on(b, lists, log);
-        return update_done(y, x, c);
+    if is_basis(j) {
+        let y = uist::cost_basis(broker_in(d), log, symbol_in(j));
+        return basis_done(t, d, y, from);
     }
-    plain_calls::unchanged(b)
-}
-
-// A call that reads the log, or one that needs none.
-pub fn reading_call(d: Done, c: Call, x: Input, log: &[Trade]) -> Done {
-    if is_new(c) {
-        let costs = line_lists::costs_of(x, c);
-        let lists = line_lists::lists_of(x, c);
-        let from = clock::now();
-        let y = arrays::build_on(costs, lists, log);
-        return build_done(y, x, c, from);
+    if is_turnover(j) {
+        let y = uist::turnover(broker_in(d), log);
+        return turnover_done(t, d, y, from);
     }
-    if is_basis(c) {
-        let b = plain_calls::broker_in(d);
-        let from = clock::now();
-        let y = uist::cost_basis(b, log, symbol_in(c));
-        return basis_done(d, y, x, c, from);
-    }
-    if is_turnover(c) {
-        let b = plain_calls::broker_in(d);
-        let from = clock::now();
-        let y = uist::turnover(b, log);
-        return turnover_done(d, y, x, c, from);
-    }
-    other_call(d, x, c)
+    d
 }

@@ -1,175 +1,93 @@
-// The calls that need no lent list: they run by value, and their answers are written.
-use crate::list_calls;
-use arrays::clock;
+// The calls that need no lent list: they run by value, and what they answer is put by report.
 use broker::read::FloatRead;
 use broker::state::UistBroker;
 use calls::call::Call;
 use calls::verb::Verb;
-use report::answer;
-use text::out::Head;
+use report::answer::Reply;
 
-// The broker after a call, and the microseconds of processor time that the call took.
-pub struct Done {
+// The broker after a call, and what it answers.
+pub struct Changed {
     pub broker: UistBroker,
-    pub micros: u64,
+    pub reply: Reply,
 }
 
-pub fn broker_in(d: Done) -> UistBroker {
-    d.broker
-}
-
-pub(crate) fn unchanged(b: UistBroker) -> Done {
-    Done {
-        broker: b,
-        micros: 0,
-    }
-}
-
-fn cash_call(b: UistBroker, c: Call, head: Head) -> Done {
-    let v = c.verb;
-    let from = clock::now();
-    let x = match v {
-        Verb::Deposit => b.deposit_cash(c.amount),
-        Verb::Withdraw => b.withdraw_cash(c.amount),
-        _ => b.withdraw_cash_with_liquidation(c.amount),
-    };
-    let micros = clock::since(from);
+fn liquidate_call(b: UistBroker, c: Call) -> Changed {
+    let x = b.withdraw_cash_with_liquidation(c.amount);
+    let broker = x.broker;
     let event = x.event;
-    answer::cash(head, event);
-    let broker = x.broker;
-    Done {
+    Changed {
         broker: broker,
-        micros: micros,
+        reply: Reply::Cash(event),
     }
 }
 
-fn send_call(b: UistBroker, c: Call, head: Head) -> Done {
+fn order_call(b: UistBroker, c: Call) -> Changed {
+    let verb = c.verb;
     let o = c.order;
-    let from = clock::now();
-    let x = b.send_order(o);
-    let micros = clock::since(from);
-    let e = x.event;
-    answer::event(head, e);
+    let x = match verb {
+        Verb::Send => b.send_order(o),
+        _ => b.insert_order(o),
+    };
     let broker = x.broker;
-    Done {
+    let event = x.event;
+    Changed {
         broker: broker,
-        micros: micros,
+        reply: Reply::Event(event),
     }
 }
 
-fn insert_call(b: UistBroker, c: Call, head: Head) -> Done {
-    let o = c.order;
-    let from = clock::now();
-    let x = b.insert_order(o);
-    let micros = clock::since(from);
-    let e = x.event;
-    answer::event(head, e);
-    let broker = x.broker;
-    Done {
-        broker: broker,
-        micros: micros,
-    }
-}
-
-fn delete_call(b: UistBroker, c: Call, head: Head) -> Done {
-    let from = clock::now();
+fn delete_call(b: UistBroker, c: Call) -> Changed {
     let x = b.delete_order(c.whole);
-    let micros = clock::since(from);
-    answer::worded(head, x.fault, b"done");
     let broker = x.broker;
-    Done {
+    Changed {
         broker: broker,
-        micros: micros,
+        reply: Reply::Deleted(x.fault),
     }
 }
 
-// The reads of a symbol.
-fn symbol_call(b: UistBroker, c: Call, head: Head) {
-    let v = c.verb;
-    match v {
-        Verb::GetPositionQty => answer::amount(head, b.get_position_qty(c.symbol)),
-        Verb::GetPendingOrder => answer::amount(head, b.get_pending_order(c.symbol)),
-        Verb::GetPositionValue => answer::amount(head, b.get_position_value(c.symbol)),
+// A liquidation, an order, or a deletion.
+pub fn changing_call(b: UistBroker, c: Call) -> Changed {
+    let verb = c.verb;
+    match verb {
+        Verb::Liquidate => liquidate_call(b, c),
+        Verb::Send | Verb::Insert => order_call(b, c),
+        _ => delete_call(b, c),
+    }
+}
+
+fn rounded(x: f64) -> Reply {
+    Reply::Float(FloatRead { value: x, fault: 0 })
+}
+
+// The reads of no symbol, and rounding.
+fn figure_call(b: UistBroker, c: Call) -> Reply {
+    let verb = c.verb;
+    match verb {
+        Verb::GetTotalValue => Reply::Float(b.get_total_value()),
+        Verb::GetLiquidationValue => Reply::Float(b.get_liquidation_value()),
+        Verb::GetCashBalance => Reply::Float(b.get_cash_balance()),
+        Verb::GetBrokerState => Reply::State(b.get_broker_state()),
+        Verb::ExecutedTradeCount => Reply::Count(b.executed_trade_count()),
+        Verb::TradeImpactTotal => {
+            Reply::Impact(b.trade_impact_total(c.amount, c.second, c.is_buy))
+        }
+        Verb::CalculateTradeCosts => Reply::Float(b.calculate_trade_costs(c.amount, c.second)),
+        Verb::Floor => rounded(floats::floor(c.amount)),
+        _ => rounded(floats::ceil(c.amount)),
+    }
+}
+
+// A call that changes nothing and is answered by no list.
+pub fn asking_call(b: UistBroker, c: Call) -> Reply {
+    let verb = c.verb;
+    match verb {
+        Verb::GetQuote => Reply::Quote(b.get_quote(c.symbol)),
+        Verb::GetPositionQty => Reply::Amount(b.get_position_qty(c.symbol)),
+        Verb::GetPendingOrder => Reply::Amount(b.get_pending_order(c.symbol)),
+        Verb::GetPositionValue => Reply::Amount(b.get_position_value(c.symbol)),
         Verb::GetPositionLiquidationValue => {
-            answer::amount(head, b.get_position_liquidation_value(c.symbol))
+            Reply::Amount(b.get_position_liquidation_value(c.symbol))
         }
-        _ => answer::quote(head, b.get_quote(c.symbol)),
-    }
-}
-
-fn state_call(b: UistBroker, head: Head) {
-    let x = b.get_broker_state();
-    let s = x.state;
-    answer::state(head, x.fault, s);
-}
-
-fn impact_call(b: UistBroker, c: Call, head: Head) {
-    let x = b.trade_impact_total(c.amount, c.second, c.is_buy);
-    let net = x.impact;
-    answer::floats(head, x.fault, net.budget, net.price);
-}
-
-fn rounded(x: f64) -> FloatRead {
-    FloatRead { value: x, fault: 0 }
-}
-
-// The other reads, and rounding.
-fn read_call(b: UistBroker, c: Call, head: Head) {
-    let v = c.verb;
-    match v {
-        Verb::GetTotalValue => answer::float(head, b.get_total_value()),
-        Verb::GetLiquidationValue => answer::float(head, b.get_liquidation_value()),
-        Verb::GetCashBalance => answer::float(head, b.get_cash_balance()),
-        Verb::GetBrokerState => state_call(b, head),
-        Verb::ExecutedTradeCount => {
-            let x = b.executed_trade_count();
-            answer::whole(head, x.fault, x.count)
-        }
-        Verb::TradeImpactTotal => impact_call(b, c, head),
-        Verb::CalculateTradeCosts => {
-            answer::float(head, b.calculate_trade_costs(c.amount, c.second))
-        }
-        Verb::Floor => answer::float(head, rounded(floats::floor(c.amount))),
-        Verb::Ceil => answer::float(head, rounded(floats::ceil(c.amount))),
-        _ => answer::bare(head),
-    }
-}
-
-fn timed(b: UistBroker, from: i64) -> Done {
-    Done {
-        broker: b,
-        micros: clock::since(from),
-    }
-}
-
-// A call that needs no lent list.
-pub(crate) fn plain_call(b: UistBroker, c: Call, head: Head) -> Done {
-    let v = c.verb;
-    let from = clock::now();
-    match v {
-        Verb::Deposit | Verb::Withdraw | Verb::Liquidate => cash_call(b, c, head),
-        Verb::Send => send_call(b, c, head),
-        Verb::Insert => insert_call(b, c, head),
-        Verb::Delete => delete_call(b, c, head),
-        Verb::GetQuote
-        | Verb::GetPositionQty
-        | Verb::GetPendingOrder
-        | Verb::GetPositionValue
-        | Verb::GetPositionLiquidationValue => {
-            symbol_call(b, c, head);
-            timed(b, from)
-        }
-        Verb::GetPositions
-        | Verb::GetQuotes
-        | Verb::GetHoldings
-        | Verb::GetPendingOrders
-        | Verb::GetTradeCosts => {
-            list_calls::read_list_call(b, v, c.room, head);
-            timed(b, from)
-        }
-        _ => {
-            read_call(b, c, head);
-            timed(b, from)
-        }
+        _ => figure_call(b, c),
     }
 }

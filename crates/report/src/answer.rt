@@ -1,44 +1,53 @@
-// The answers of calls, written a line each; those that are lists are in list_answers.rt.
+// The answers of calls, put behind the head of their line; those that are lists are in
+// list_answers.rt. Each answers how many bytes stand in the buffer then.
 use account::BrokerCashEvent;
 use broker::read::AmountRead;
 use broker::read::BrokerState;
+use broker::read::CountRead;
 use broker::read::FloatRead;
+use broker::read::ImpactRead;
 use broker::read::QuoteRead;
+use broker::read::StateRead;
 use market::order::OrderEvent;
 use portfolio::value::Amount;
+use reasons::Reason;
+use reasons::wrong::Why;
 use sender::Latest;
 use text::out;
-use text::out::Head;
+
+// The answers of calls that need no lent list.
+pub enum Reply {
+    Cash(BrokerCashEvent),
+    Event(OrderEvent),
+    Deleted(u32),
+    Amount(AmountRead),
+    Quote(QuoteRead),
+    Float(FloatRead),
+    Impact(ImpactRead),
+    Count(CountRead),
+    State(StateRead),
+}
 
 // `refused` and the number, or `word`.
-pub fn worded(head: Head, fault: u32, word: &[u8]) {
-    let mut t = [0u8; 4096];
-    let mut n = out::put_head(&mut t, head, fault);
-    if fault == 0 {
-        n = out::put(&mut t, n, b" ");
-        n = out::put(&mut t, n, word);
+pub fn worded(t: &mut [u8; 65536], at: usize, fault: u32, word: &[u8]) -> usize {
+    if fault != 0 {
+        return out::put_refused(t, at, fault);
     }
-    out::end_line(&mut t, n);
+    let n = out::put(t, at, b" ");
+    out::put(t, n, word)
 }
 
-// The head alone.
-pub fn bare(head: Head) {
-    let mut t = [0u8; 4096];
-    let n = out::put_head(&mut t, head, 0);
-    out::end_line(&mut t, n);
-}
-
-fn put_done(t: &mut [u8; 4096], at: usize, x: f64) -> usize {
+fn put_done(t: &mut [u8; 65536], at: usize, x: f64) -> usize {
     let n = out::put(t, at, b" done");
     out::put_float_word(t, n, x)
 }
 
-fn put_failure(t: &mut [u8; 4096], at: usize, fault: u32, x: f64) -> usize {
+fn put_failure(t: &mut [u8; 65536], at: usize, fault: u32, x: f64) -> usize {
     let n = out::put_refused(t, at, fault);
     out::put_float_word(t, n, x)
 }
 
-fn put_cash(t: &mut [u8; 4096], at: usize, event: BrokerCashEvent) -> usize {
+fn cash(t: &mut [u8; 65536], at: usize, event: BrokerCashEvent) -> usize {
     match event {
         BrokerCashEvent::DepositSuccess(x) => put_done(t, at, x),
         BrokerCashEvent::WithdrawSuccess(x) => put_done(t, at, x),
@@ -49,15 +58,8 @@ fn put_cash(t: &mut [u8; 4096], at: usize, event: BrokerCashEvent) -> usize {
     }
 }
 
-pub fn cash(head: Head, event: BrokerCashEvent) {
-    let mut t = [0u8; 4096];
-    let mut n = out::put_head(&mut t, head, 0);
-    n = put_cash(&mut t, n, event);
-    out::end_line(&mut t, n);
-}
-
 // ` taken:ORDER`, or the number in its place.
-pub(crate) fn put_event(t: &mut [u8; 4096], at: usize, e: OrderEvent) -> usize {
+pub(crate) fn event(t: &mut [u8; 65536], at: usize, e: OrderEvent) -> usize {
     let mut n = out::put(t, at, b" ");
     if e.fault == 0 {
         n = out::put(t, n, b"taken");
@@ -69,101 +71,128 @@ pub(crate) fn put_event(t: &mut [u8; 4096], at: usize, e: OrderEvent) -> usize {
     out::put_order(t, n, o)
 }
 
-pub fn event(head: Head, e: OrderEvent) {
-    let mut t = [0u8; 4096];
-    let mut n = out::put_head(&mut t, head, 0);
-    n = put_event(&mut t, n, e);
-    out::end_line(&mut t, n);
-}
-
 // What a check answers.
-pub fn checked(head: Head, fault: u32, traded: usize, queued: usize) {
-    let mut t = [0u8; 4096];
-    let mut n = out::put_head(&mut t, head, fault);
-    if fault == 0 {
-        n = out::put(&mut t, n, b" traded");
-        n = out::put_whole_word(&mut t, n, traded as u64);
-        n = out::put(&mut t, n, b" queued");
-        n = out::put_whole_word(&mut t, n, queued as u64);
+pub fn checked(t: &mut [u8; 65536], at: usize, fault: u32, traded: usize, queued: usize) -> usize {
+    if fault != 0 {
+        return out::put_refused(t, at, fault);
     }
-    out::end_line(&mut t, n);
+    let mut n = out::put(t, at, b" traded");
+    n = out::put_whole_word(t, n, traded as u64);
+    n = out::put(t, n, b" queued");
+    out::put_whole_word(t, n, queued as u64)
 }
 
-fn put_amount(t: &mut [u8; 4096], at: usize, a: Amount) -> usize {
+fn put_amount(t: &mut [u8; 65536], at: usize, a: Amount) -> usize {
     match a {
         Amount::Of(x) => out::put_float_word(t, at, x),
         Amount::Missing => out::put(t, at, b" none"),
     }
 }
 
-pub fn amount(head: Head, x: AmountRead) {
-    let mut t = [0u8; 4096];
-    let mut n = out::put_head(&mut t, head, x.fault);
-    if x.fault == 0 {
-        let a = x.amount;
-        n = put_amount(&mut t, n, a);
+pub fn amount(t: &mut [u8; 65536], at: usize, x: AmountRead) -> usize {
+    if x.fault != 0 {
+        return out::put_refused(t, at, x.fault);
     }
-    out::end_line(&mut t, n);
+    let a = x.amount;
+    put_amount(t, at, a)
 }
 
-pub fn float(head: Head, x: FloatRead) {
-    let mut t = [0u8; 4096];
-    let mut n = out::put_head(&mut t, head, x.fault);
-    if x.fault == 0 {
-        n = out::put_float_word(&mut t, n, x.value);
+pub fn float(t: &mut [u8; 65536], at: usize, x: FloatRead) -> usize {
+    if x.fault != 0 {
+        return out::put_refused(t, at, x.fault);
     }
-    out::end_line(&mut t, n);
+    out::put_float_word(t, at, x.value)
 }
 
-// Two floats.
-pub fn floats(head: Head, fault: u32, x: f64, y: f64) {
-    let mut t = [0u8; 4096];
-    let mut n = out::put_head(&mut t, head, fault);
-    if fault == 0 {
-        n = out::put_float_word(&mut t, n, x);
-        n = out::put_float_word(&mut t, n, y);
+fn impact(t: &mut [u8; 65536], at: usize, x: ImpactRead) -> usize {
+    if x.fault != 0 {
+        return out::put_refused(t, at, x.fault);
     }
-    out::end_line(&mut t, n);
+    let net = x.impact;
+    let n = out::put_float_word(t, at, net.budget);
+    out::put_float_word(t, n, net.price)
 }
 
-fn put_latest(t: &mut [u8; 4096], at: usize, q: Latest) -> usize {
+fn put_latest(t: &mut [u8; 65536], at: usize, q: Latest) -> usize {
     match q {
         Latest::At(x) => out::put_quote_word(t, at, x),
         Latest::Unquoted => out::put(t, at, b" none"),
     }
 }
 
-pub fn quote(head: Head, x: QuoteRead) {
-    let mut t = [0u8; 4096];
-    let mut n = out::put_head(&mut t, head, x.fault);
-    if x.fault == 0 {
-        let q = x.latest;
-        n = put_latest(&mut t, n, q);
+fn quote(t: &mut [u8; 65536], at: usize, x: QuoteRead) -> usize {
+    if x.fault != 0 {
+        return out::put_refused(t, at, x.fault);
     }
-    out::end_line(&mut t, n);
+    let q = x.latest;
+    put_latest(t, at, q)
 }
 
-pub fn state(head: Head, fault: u32, s: BrokerState) {
+fn state(t: &mut [u8; 65536], at: usize, x: StateRead) -> usize {
+    let s = x.state;
     match s {
-        BrokerState::Ready => worded(head, fault, b"Ready"),
-        BrokerState::Failed => worded(head, fault, b"Failed"),
+        BrokerState::Ready => worded(t, at, x.fault, b"Ready"),
+        BrokerState::Failed => worded(t, at, x.fault, b"Failed"),
     }
 }
 
-pub fn whole(head: Head, fault: u32, x: u64) {
-    let mut t = [0u8; 4096];
-    let mut n = out::put_head(&mut t, head, fault);
-    if fault == 0 {
-        n = out::put_whole_word(&mut t, n, x);
+fn count(t: &mut [u8; 65536], at: usize, x: CountRead) -> usize {
+    if x.fault != 0 {
+        return out::put_refused(t, at, x.fault);
     }
-    out::end_line(&mut t, n);
+    out::put_whole_word(t, at, x.count)
+}
+
+// What a call that needs no lent list answers.
+pub fn put(t: &mut [u8; 65536], at: usize, r: Reply) -> usize {
+    match r {
+        Reply::Cash(x) => cash(t, at, x),
+        Reply::Event(x) => event(t, at, x),
+        Reply::Deleted(fault) => worded(t, at, fault, b"done"),
+        Reply::Amount(x) => amount(t, at, x),
+        Reply::Quote(x) => quote(t, at, x),
+        Reply::Float(x) => float(t, at, x),
+        Reply::Impact(x) => impact(t, at, x),
+        Reply::Count(x) => count(t, at, x),
+        Reply::State(x) => state(t, at, x),
+    }
 }
 
 // Two whole numbers.
-pub fn wholes(head: Head, x: u64, y: u64) {
-    let mut t = [0u8; 4096];
-    let mut n = out::put_head(&mut t, head, 0);
-    n = out::put_whole_word(&mut t, n, x);
-    n = out::put_whole_word(&mut t, n, y);
-    out::end_line(&mut t, n);
+pub fn wholes(t: &mut [u8; 65536], at: usize, x: u64, y: u64) -> usize {
+    let n = out::put_whole_word(t, at, x);
+    out::put_whole_word(t, n, y)
+}
+
+fn put_wrong_word(t: &mut [u8; 65536], at: usize, why: Why) -> usize {
+    match why {
+        Why::NoFloat => out::put(t, at, b" not a float"),
+        Why::NoWhole => out::put(t, at, b" not a whole number"),
+        Why::TooLarge => out::put(t, at, b" too large"),
+        Why::NoSide => out::put(t, at, b" not a side"),
+        Why::NoOrder => out::put(t, at, b" not an order"),
+        Why::NoQuote => out::put(t, at, b" not a quote"),
+        Why::NoWeight => out::put(t, at, b" not a weight"),
+        _ => out::put(t, at, b" not a cost"),
+    }
+}
+
+fn put_why(t: &mut [u8; 65536], at: usize, why: Why) -> usize {
+    match why {
+        Why::UnknownCall => out::put(t, at, b" unknown call"),
+        Why::TooFewWords => out::put(t, at, b" too few words"),
+        Why::TooManyWords => out::put(t, at, b" too many words"),
+        Why::TooManyRows => out::put(t, at, b" too many rows"),
+        Why::Tab => out::put(t, at, b" tab"),
+        Why::CarriageReturn => out::put(t, at, b" carriage return"),
+        Why::LineTooLong => out::put(t, at, b" line too long"),
+        _ => put_wrong_word(t, at, why),
+    }
+}
+
+// Which word of a malformed line is wrong, and why.
+pub fn reason(t: &mut [u8; 65536], at: usize, r: Reason) -> usize {
+    let n = out::put_whole_word(t, at, r.word);
+    let why = r.why;
+    put_why(t, n, why)
 }

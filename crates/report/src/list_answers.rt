@@ -7,10 +7,9 @@ use market::order::OrderEvent;
 use market::quote::Quote;
 use reads::collected::Holding;
 use text::out;
-use text::out::Head;
 
 // The first `count` events.
-fn put_events(t: &mut [u8; 4096], at: usize, rows: [OrderEvent; 1024], count: usize) -> usize {
+fn put_events(t: &mut [u8; 65536], at: usize, rows: [OrderEvent; 1024], count: usize) -> usize {
     let mut n = out::put_whole_word(t, at, count as u64);
     let mut i: usize = 0;
     while i < 1024 {
@@ -18,35 +17,44 @@ fn put_events(t: &mut [u8; 4096], at: usize, rows: [OrderEvent; 1024], count: us
             break;
         }
         let e = rows[i];
-        n = answer::put_event(t, n, e);
+        n = answer::event(t, n, e);
         i = i + 1;
     }
     n
 }
 
-pub fn events(head: Head, fault: u32, rows: [OrderEvent; 1024], count: usize) {
-    let mut t = [0u8; 4096];
-    let mut n = out::put_head(&mut t, head, fault);
-    if fault == 0 {
-        n = put_events(&mut t, n, rows, count);
+pub fn events(
+    t: &mut [u8; 65536],
+    at: usize,
+    fault: u32,
+    rows: [OrderEvent; 1024],
+    count: usize,
+) -> usize {
+    if fault != 0 {
+        return out::put_refused(t, at, fault);
     }
-    out::end_line(&mut t, n);
+    put_events(t, at, rows, count)
 }
 
 // What an update answers.
-pub fn updated(head: Head, fault: u32, total: f64, rows: [OrderEvent; 1024], count: usize) {
-    let mut t = [0u8; 4096];
-    let mut n = out::put_head(&mut t, head, fault);
-    if fault == 0 {
-        n = out::put(&mut t, n, b" total");
-        n = out::put_float_word(&mut t, n, total);
-        n = put_events(&mut t, n, rows, count);
+pub fn updated(
+    t: &mut [u8; 65536],
+    at: usize,
+    fault: u32,
+    total: f64,
+    rows: [OrderEvent; 1024],
+    count: usize,
+) -> usize {
+    if fault != 0 {
+        return out::put_refused(t, at, fault);
     }
-    out::end_line(&mut t, n);
+    let mut n = out::put(t, at, b" total");
+    n = out::put_float_word(t, n, total);
+    put_events(t, n, rows, count)
 }
 
 // The first `count` orders.
-fn put_orders(t: &mut [u8; 4096], at: usize, rows: [Order; 1024], count: usize) -> usize {
+fn put_orders(t: &mut [u8; 65536], at: usize, rows: [Order; 1024], count: usize) -> usize {
     let mut n = out::put_whole_word(t, at, count as u64);
     let mut i: usize = 0;
     while i < 1024 {
@@ -60,17 +68,21 @@ fn put_orders(t: &mut [u8; 4096], at: usize, rows: [Order; 1024], count: usize) 
     n
 }
 
-pub fn orders(head: Head, fault: u32, rows: [Order; 1024], count: usize) {
-    let mut t = [0u8; 4096];
-    let mut n = out::put_head(&mut t, head, fault);
-    if fault == 0 {
-        n = put_orders(&mut t, n, rows, count);
+pub fn orders(
+    t: &mut [u8; 65536],
+    at: usize,
+    fault: u32,
+    rows: [Order; 1024],
+    count: usize,
+) -> usize {
+    if fault != 0 {
+        return out::put_refused(t, at, fault);
     }
-    out::end_line(&mut t, n);
+    put_orders(t, at, rows, count)
 }
 
 // The first `count` symbols.
-fn put_positions(t: &mut [u8; 4096], at: usize, rows: [u32; 1024], count: usize) -> usize {
+fn put_positions(t: &mut [u8; 65536], at: usize, rows: [u32; 1024], count: usize) -> usize {
     let mut n = out::put_whole_word(t, at, count as u64);
     let mut i: usize = 0;
     while i < 1024 {
@@ -83,17 +95,21 @@ fn put_positions(t: &mut [u8; 4096], at: usize, rows: [u32; 1024], count: usize)
     n
 }
 
-pub fn positions(head: Head, fault: u32, rows: [u32; 1024], count: usize) {
-    let mut t = [0u8; 4096];
-    let mut n = out::put_head(&mut t, head, fault);
-    if fault == 0 {
-        n = put_positions(&mut t, n, rows, count);
+pub fn positions(
+    t: &mut [u8; 65536],
+    at: usize,
+    fault: u32,
+    rows: [u32; 1024],
+    count: usize,
+) -> usize {
+    if fault != 0 {
+        return out::put_refused(t, at, fault);
     }
-    out::end_line(&mut t, n);
+    put_positions(t, at, rows, count)
 }
 
 // The first `count` holdings.
-fn put_holdings(t: &mut [u8; 4096], at: usize, rows: [Holding; 1024], count: usize) -> usize {
+fn put_holdings(t: &mut [u8; 65536], at: usize, rows: [Holding; 1024], count: usize) -> usize {
     let mut n = out::put_whole_word(t, at, count as u64);
     let mut i: usize = 0;
     while i < 1024 {
@@ -107,17 +123,21 @@ fn put_holdings(t: &mut [u8; 4096], at: usize, rows: [Holding; 1024], count: usi
     n
 }
 
-pub fn holdings(head: Head, fault: u32, rows: [Holding; 1024], count: usize) {
-    let mut t = [0u8; 4096];
-    let mut n = out::put_head(&mut t, head, fault);
-    if fault == 0 {
-        n = put_holdings(&mut t, n, rows, count);
+pub fn holdings(
+    t: &mut [u8; 65536],
+    at: usize,
+    fault: u32,
+    rows: [Holding; 1024],
+    count: usize,
+) -> usize {
+    if fault != 0 {
+        return out::put_refused(t, at, fault);
     }
-    out::end_line(&mut t, n);
+    put_holdings(t, at, rows, count)
 }
 
 // The first `count` quotes.
-fn put_quotes(t: &mut [u8; 4096], at: usize, rows: [Quote; 1024], count: usize) -> usize {
+fn put_quotes(t: &mut [u8; 65536], at: usize, rows: [Quote; 1024], count: usize) -> usize {
     let mut n = out::put_whole_word(t, at, count as u64);
     let mut i: usize = 0;
     while i < 1024 {
@@ -131,21 +151,25 @@ fn put_quotes(t: &mut [u8; 4096], at: usize, rows: [Quote; 1024], count: usize) 
     n
 }
 
-pub fn quotes(head: Head, fault: u32, rows: [Quote; 1024], count: usize) {
-    let mut t = [0u8; 4096];
-    let mut n = out::put_head(&mut t, head, fault);
-    if fault == 0 {
-        n = put_quotes(&mut t, n, rows, count);
+pub fn quotes(
+    t: &mut [u8; 65536],
+    at: usize,
+    fault: u32,
+    rows: [Quote; 1024],
+    count: usize,
+) -> usize {
+    if fault != 0 {
+        return out::put_refused(t, at, fault);
     }
-    out::end_line(&mut t, n);
+    put_quotes(t, at, rows, count)
 }
 
-fn put_named(t: &mut [u8; 4096], at: usize, name: &[u8], x: f64) -> usize {
+fn put_named(t: &mut [u8; 65536], at: usize, name: &[u8], x: f64) -> usize {
     let n = out::put(t, at, name);
     out::put_float(t, n, x)
 }
 
-fn put_cost(t: &mut [u8; 4096], at: usize, cost: BrokerCost) -> usize {
+fn put_cost(t: &mut [u8; 65536], at: usize, cost: BrokerCost) -> usize {
     match cost {
         BrokerCost::PerShare(x) => put_named(t, at, b" per_share:", x),
         BrokerCost::PctOfValue(x) => put_named(t, at, b" pct_of_value:", x),
@@ -154,7 +178,7 @@ fn put_cost(t: &mut [u8; 4096], at: usize, cost: BrokerCost) -> usize {
 }
 
 // The first `count` costs.
-fn put_costs(t: &mut [u8; 4096], at: usize, rows: [Cost; 1024], count: usize) -> usize {
+fn put_costs(t: &mut [u8; 65536], at: usize, rows: [Cost; 1024], count: usize) -> usize {
     let mut n = out::put_whole_word(t, at, count as u64);
     let mut i: usize = 0;
     while i < 1024 {
@@ -169,11 +193,15 @@ fn put_costs(t: &mut [u8; 4096], at: usize, rows: [Cost; 1024], count: usize) ->
     n
 }
 
-pub fn costs(head: Head, fault: u32, rows: [Cost; 1024], count: usize) {
-    let mut t = [0u8; 4096];
-    let mut n = out::put_head(&mut t, head, fault);
-    if fault == 0 {
-        n = put_costs(&mut t, n, rows, count);
+pub fn costs(
+    t: &mut [u8; 65536],
+    at: usize,
+    fault: u32,
+    rows: [Cost; 1024],
+    count: usize,
+) -> usize {
+    if fault != 0 {
+        return out::put_refused(t, at, fault);
     }
-    out::end_line(&mut t, n);
+    put_costs(t, at, rows, count)
 }

@@ -1,4 +1,4 @@
-// What a broker holds, written a line each.
+// What a broker holds, put a line each. Each function answers how many bytes stand in the buffer then.
 use broker::read::AmountRead;
 use broker::read::BrokerState;
 use broker::read::FloatRead;
@@ -11,7 +11,7 @@ use portfolio::value::Amount;
 use text::out;
 
 // A title, and a float or `refused` and the number.
-fn put_read(t: &mut [u8; 4096], at: usize, title: &[u8], x: FloatRead) -> usize {
+fn put_read(t: &mut [u8; 65536], at: usize, title: &[u8], x: FloatRead) -> usize {
     let n = out::put(t, at, title);
     if x.fault == 0 {
         return out::put_float_word(t, n, x.value);
@@ -19,114 +19,104 @@ fn put_read(t: &mut [u8; 4096], at: usize, title: &[u8], x: FloatRead) -> usize 
     out::put_refused(t, n, x.fault)
 }
 
-fn put_state(t: &mut [u8; 4096], at: usize, s: BrokerState) -> usize {
+fn put_state(t: &mut [u8; 65536], at: usize, s: BrokerState) -> usize {
     match s {
         BrokerState::Ready => out::put(t, at, b" state Ready"),
         BrokerState::Failed => out::put(t, at, b" state Failed"),
     }
 }
 
-pub fn money(b: UistBroker, turnover: FloatRead) {
-    let mut t = [0u8; 4096];
-    let mut n = put_read(&mut t, 0, b" cash", b.get_cash_balance());
+fn money(t: &mut [u8; 65536], at: usize, b: UistBroker, turnover: FloatRead) -> usize {
+    let mut n = put_read(t, at, b" cash", b.get_cash_balance());
     let s = b.get_broker_state();
     let state = s.state;
-    n = put_state(&mut t, n, state);
-    n = put_read(&mut t, n, b" total", b.get_total_value());
-    n = put_read(&mut t, n, b" liquidation", b.get_liquidation_value());
-    n = put_read(&mut t, n, b" turnover", turnover);
-    out::end_line(&mut t, n);
+    n = put_state(t, n, state);
+    n = put_read(t, n, b" total", b.get_total_value());
+    n = put_read(t, n, b" liquidation", b.get_liquidation_value());
+    n = put_read(t, n, b" turnover", turnover);
+    out::put(t, n, b"\n")
 }
 
-fn held(funds: Funds) {
-    let mut t = [0u8; 4096];
-    let mut n = out::put(&mut t, 0, b" held");
+fn held(t: &mut [u8; 65536], at: usize, funds: Funds) -> usize {
+    let mut n = out::put(t, at, b" held");
     let mut i: usize = 0;
     while i < 256 {
         if funds.holding[i] != 0.0 {
-            n = out::put_entry(&mut t, n, i as u64, funds.holding[i]);
+            n = out::put_entry(t, n, i as u64, funds.holding[i]);
         }
         i = i + 1;
     }
-    out::end_line(&mut t, n);
+    out::put(t, n, b"\n")
 }
 
-fn pending(funds: Funds) {
-    let mut t = [0u8; 4096];
-    let mut n = out::put(&mut t, 0, b" pending");
+fn pending(t: &mut [u8; 65536], at: usize, funds: Funds) -> usize {
+    let mut n = out::put(t, at, b" pending");
     let mut i: usize = 0;
     while i < 256 {
         if funds.awaited[i] {
-            n = out::put_entry(&mut t, n, i as u64, funds.pending[i]);
+            n = out::put_entry(t, n, i as u64, funds.pending[i]);
         }
         i = i + 1;
     }
-    out::end_line(&mut t, n);
+    out::put(t, n, b"\n")
 }
 
-fn latest(quotes: Table) {
-    let mut t = [0u8; 4096];
-    let mut n = out::put(&mut t, 0, b" latest");
+fn latest(t: &mut [u8; 65536], at: usize, quotes: Table) -> usize {
+    let mut n = out::put(t, at, b" latest");
     let mut i: usize = 0;
     while i < 256 {
         if quotes.present[i] {
             let q = quotes.rows[i];
-            n = out::put_quote_word(&mut t, n, q);
+            n = out::put_quote_word(t, n, q);
         }
         i = i + 1;
     }
-    out::end_line(&mut t, n);
+    out::put(t, n, b"\n")
 }
 
-// The lines of holdings, pending quantities and latest quotes, and the head of the bases' line.
-pub fn holdings(b: UistBroker) {
+// The lines of money, holdings, pending quantities and latest quotes, and the head of the bases' line.
+pub fn first_lines(t: &mut [u8; 65536], at: usize, b: UistBroker, turnover: FloatRead) -> usize {
     let p = b.portfolio;
     let funds = p.funds;
-    held(funds);
-    pending(funds);
+    let mut n = money(t, at, b, turnover);
+    n = held(t, n, funds);
+    n = pending(t, n, funds);
     let quotes = p.latest;
-    latest(quotes);
-    io::write_all(1, b" basis");
+    n = latest(t, n, quotes);
+    out::put(t, n, b" basis")
 }
 
-fn put_basis(t: &mut [u8; 4096], at: usize, a: Amount) -> usize {
+fn put_basis(t: &mut [u8; 65536], at: usize, a: Amount) -> usize {
     match a {
         Amount::Of(x) => out::put_float(t, at, x),
         Amount::Missing => out::put(t, at, b"none"),
     }
 }
 
-pub fn basis(symbol: u32, x: AmountRead) {
-    let mut t = [0u8; 4096];
-    let mut n = out::put_whole_word(&mut t, 0, symbol as u64);
-    n = out::put(&mut t, n, b":");
+pub fn basis(t: &mut [u8; 65536], at: usize, symbol: u32, x: AmountRead) -> usize {
+    let mut n = out::put_whole_word(t, at, symbol as u64);
+    n = out::put(t, n, b":");
     let a = x.amount;
-    n = put_basis(&mut t, n, a);
-    out::flush(&t, n);
+    put_basis(t, n, a)
 }
 
 // The end of the bases' line, and the head of the trades': how many were logged.
-pub fn trades_head(b: UistBroker, turnover: FloatRead) {
-    let mut t = [0u8; 4096];
-    let mut n: usize = 0;
+pub fn trades_head(t: &mut [u8; 65536], at: usize, b: UistBroker, turnover: FloatRead) -> usize {
+    let mut n = at;
     if turnover.fault != 0 {
-        n = out::put_refused(&mut t, n, turnover.fault);
+        n = out::put_refused(t, n, turnover.fault);
     }
-    n = out::put(&mut t, n, b"\n trades");
+    n = out::put(t, n, b"\n trades");
     let logged = b.executed_trade_count();
-    n = out::put_whole_word(&mut t, n, logged.count);
-    out::flush(&t, n);
+    out::put_whole_word(t, n, logged.count)
 }
 
-pub fn one_trade(x: Trade) {
-    let mut t = [0u8; 4096];
-    let n = out::put_trade(&mut t, 0, x);
-    out::flush(&t, n);
+pub fn one_trade(t: &mut [u8; 65536], at: usize, x: Trade) -> usize {
+    out::put_trade(t, at, x)
 }
 
-fn waiting(e: UistV1) {
-    let mut t = [0u8; 4096];
-    let mut n = out::put(&mut t, 0, b"\n waiting");
+fn waiting(t: &mut [u8; 65536], at: usize, e: UistV1) -> usize {
+    let mut n = out::put(t, at, b"\n waiting");
     let c = e.counts;
     let mut i: usize = 0;
     while i < 1024 {
@@ -134,17 +124,16 @@ fn waiting(e: UistV1) {
             if i - c.resting < c.waits {
                 let x = e.book[i];
                 let o = x.order;
-                n = out::put_order_word(&mut t, n, o);
+                n = out::put_order_word(t, n, o);
             }
         }
         i = i + 1;
     }
-    out::flush(&t, n);
+    n
 }
 
-fn resting(e: UistV1) {
-    let mut t = [0u8; 4096];
-    let mut n = out::put(&mut t, 0, b"\n resting");
+fn resting(t: &mut [u8; 65536], at: usize, e: UistV1) -> usize {
+    let mut n = out::put(t, at, b"\n resting");
     let c = e.counts;
     let mut i: usize = 0;
     while i < 1024 {
@@ -153,23 +142,23 @@ fn resting(e: UistV1) {
         }
         let x = e.book[i];
         let o = x.order;
-        n = out::put_whole_word(&mut t, n, x.id);
-        n = out::put(&mut t, n, b":");
-        n = out::put_order(&mut t, n, o);
+        n = out::put_whole_word(t, n, x.id);
+        n = out::put(t, n, b":");
+        n = out::put_order(t, n, o);
         i = i + 1;
     }
-    out::end_line(&mut t, n);
+    out::put(t, n, b"\n")
 }
 
-pub fn book(b: UistBroker) {
+// The end of the trades' line, and the lines of the book.
+pub fn last_lines(t: &mut [u8; 65536], at: usize, b: UistBroker) -> usize {
     let e = b.exchange;
-    waiting(e);
-    resting(e);
+    let n = waiting(t, at, e);
+    resting(t, n, e)
 }
 
 // No broker was built.
-pub fn no_broker() {
-    let mut t = [0u8; 4096];
-    let n = out::put_refused(&mut t, 0, 16);
-    out::end_line(&mut t, n);
+pub fn no_broker(t: &mut [u8; 65536], at: usize) -> usize {
+    let n = out::put_refused(t, at, 16);
+    out::put(t, n, b"\n")
 }

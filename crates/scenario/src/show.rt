@@ -24,46 +24,66 @@ fn note_trades(v: View, log: &[Trade], from: usize, to: usize) -> View
     w
 }
 
-fn show_trades(log: &[Trade], from: usize, to: usize)
+fn show_trades(t: &mut [u8; 65536], at: usize, log: &[Trade], from: usize, to: usize) -> usize
     requires { ⌜ to ≤ length (now log) ⌝ }
 {
+    let mut n = at;
     let mut i = from;
     while i < to {
-        let t = log[i];
-        state::one_trade(t);
+        let x = log[i];
+        n = state::one_trade(t, n, x);
         i = i + 1;
     }
+    n
 }
 
-fn show_bases(b: UistBroker, log: &[Trade], s: Symbols) {
-    let n = view::symbol_count(s);
+fn show_bases(t: &mut [u8; 65536], at: usize, b: UistBroker, log: &[Trade], s: Symbols) -> usize {
+    let count = view::symbol_count(s);
+    let mut n = at;
     let mut i = 0;
-    while i < n {
+    while i < count {
         let symbol = view::symbol_at(s, i);
         let x = uist::cost_basis(b, log, symbol);
-        state::basis(symbol, x);
+        n = state::basis(t, n, symbol, x);
         i = i + 1;
     }
+    n
+}
+
+// What is kept once what the broker holds is shown, and how many bytes stand in the buffer then.
+pub struct Shown {
+    pub view: View,
+    pub at: usize,
+}
+
+pub(crate) fn left_at(v: View, at: usize) -> Shown {
+    Shown { view: v, at: at }
 }
 
 // Shows what the broker holds, where this line asks for it.
-pub(crate) fn show_state(v: View, b: UistBroker, c: Call, log: &[Trade]) -> View {
+pub(crate) fn show_state(
+    t: &mut [u8; 65536],
+    at: usize,
+    v: View,
+    b: UistBroker,
+    c: Call,
+    log: &[Trade],
+) -> Shown {
     if view::is_hidden(v, c) {
-        return v;
+        return left_at(v, at);
     }
     if view::is_broken(b) {
-        state::no_broker();
-        return v;
+        let n = state::no_broker(t, at);
+        return left_at(v, n);
     }
-    let t = uist::turnover(b, log);
+    let turnover = uist::turnover(b, log);
     let from = view::first_row(v);
-    let to = view::last_row(b, t, log.len());
+    let to = view::last_row(b, turnover, log.len());
     let w = note_trades(v, log, from, to);
-    state::money(b, t);
-    state::holdings(b);
-    show_bases(b, log, view::traded_symbols(w, t));
-    state::trades_head(b, t);
-    show_trades(log, from, to);
-    state::book(b);
-    view::shown(w, to)
+    let mut n = state::first_lines(t, at, b, turnover);
+    n = show_bases(t, n, b, log, view::traded_symbols(w, turnover));
+    n = state::trades_head(t, n, b, turnover);
+    n = show_trades(t, n, log, from, to);
+    n = state::last_lines(t, n, b);
+    left_at(view::shown(w, to), n)
 }

@@ -5,13 +5,12 @@ use broker::state::UistBroker;
 use calls::call::Call;
 use calls::verb::Verb;
 use costs::TradeCosts;
-use dispatch::plain_calls::Done;
+use dispatch::list_calls::Done;
+use dispatch::log_calls;
 use market::table::ReadTable;
 use market::trade::Trade;
 use report::answer;
-use text::input;
-use text::input::Input;
-use text::out::Head;
+use text::out;
 
 // `rows` of the log are lent; the first `shown` trades were shown, and `traded` says which symbols
 // they are of; `calls` were made since the last `clock`, in `micros`.
@@ -51,7 +50,8 @@ pub(crate) fn rows(v: View) -> usize {
     v.rows
 }
 
-// The lent log's rows follow `new` and `lend`; a `new` has shown no trade.
+// What is kept before a call that the log is lent to: the log of a `new` has the rows that it names,
+// and none of its trades was shown.
 pub(crate) fn before(v: View, c: Call) -> View {
     let verb = c.verb;
     let mut w = v;
@@ -62,16 +62,13 @@ pub(crate) fn before(v: View, c: Call) -> View {
             w.traded = [false; 256];
             w
         }
-        Verb::Lend => {
-            w.rows = c.log as usize;
-            w
-        }
         _ => w,
     }
 }
 
-// Is a line of this verb a call on a broker?
-fn is_call(verb: Verb) -> bool {
+// Is this line a call on a broker?
+pub(crate) fn is_call(c: Call) -> bool {
+    let verb = c.verb;
     match verb {
         Verb::Blank => false,
         Verb::Malformed => false,
@@ -91,42 +88,57 @@ fn sum(a: u64, b: u64) -> u64 {
     a + b
 }
 
-fn clocked(v: View, head: Head) -> View {
-    answer::wholes(head, v.calls, v.micros);
+// A call was made, in so many microseconds.
+pub(crate) fn counted(v: View, micros: u64) -> View {
     let mut w = v;
-    w.calls = 0;
-    w.micros = 0;
+    w.calls = sum(v.calls, 1);
+    w.micros = sum(v.micros, micros);
     w
 }
 
-// What the run keeps after a call; the lines that make none are answered.
-pub(crate) fn after(v: View, d: Done, c: Call, x: Input) -> View {
+// What is kept after a call that the log was lent to, or another one, which was counted.
+pub(crate) fn after(v: View, c: Call, d: Done) -> View {
+    if log_calls::needs_log(c) {
+        return counted(v, d.micros);
+    }
+    v
+}
+
+// The answer of a line that makes no call.
+pub(crate) fn put_setting(t: &mut [u8; 65536], at: usize, v: View, c: Call) -> usize {
+    let verb = c.verb;
+    match verb {
+        Verb::Lend => out::put(t, at, b" lent"),
+        Verb::State => out::put(t, at, b" shown"),
+        Verb::Quiet => out::put(t, at, b" quiet"),
+        Verb::Full => out::put(t, at, b" full"),
+        Verb::Clock => answer::wholes(t, at, v.calls, v.micros),
+        _ => at,
+    }
+}
+
+// What is kept after a line that makes no call.
+pub(crate) fn set(v: View, c: Call) -> View {
     let verb = c.verb;
     let mut w = v;
-    if is_call(verb) {
-        w.calls = sum(v.calls, 1);
-        w.micros = sum(v.micros, d.micros);
-    }
     match verb {
         Verb::Lend => {
-            answer::worded(input::head_in(x, c), 0, b"lent");
-            w
-        }
-        Verb::State => {
-            answer::worded(input::head_in(x, c), 0, b"shown");
+            w.rows = c.log as usize;
             w
         }
         Verb::Quiet => {
-            answer::worded(input::head_in(x, c), 0, b"quiet");
             w.quiet = true;
             w
         }
         Verb::Full => {
-            answer::worded(input::head_in(x, c), 0, b"full");
             w.quiet = false;
             w
         }
-        Verb::Clock => clocked(w, input::head_in(x, c)),
+        Verb::Clock => {
+            w.calls = 0;
+            w.micros = 0;
+            w
+        }
         _ => w,
     }
 }
@@ -138,7 +150,7 @@ pub(crate) fn is_hidden(v: View, c: Call) -> bool {
         Verb::State => false,
         Verb::Floor => true,
         Verb::Ceil => true,
-        _ => v.quiet || !is_call(verb),
+        _ => v.quiet || !is_call(c),
     }
 }
 

@@ -2,10 +2,10 @@
 
 -- ---- the steps
 pub use Rattle.slices.proofs.Where.{Base, Wd, inside, spot, Dv}
-pub use Rattle.slices.proofs.RowTypes.{Kin, struct, enum, R, ty, ptrTo, shrTy, mutTy, pV, rV, pA, rA, same, hasV, makeV, lentV, freeV, hasA, makeA, freeA}
+pub use Rattle.slices.proofs.RowTypes.{Kin, struct, enum, R, ty, ptrTo, shrTy, mutTy, Bytes, bytesTo, pV, rV, pA, rA, same, hasV, makeV, lentV, freeV, hasA, makeA, freeA}
 pub use Rattle.slices.proofs.Operands.{rd, to, fr, gn, flag, loc, lit, flit, unit, part, shr-ptr, shr-len, mut-ptr, mut-len, lent-len}
 pub use Rattle.slices.proofs.Steps.{drop, sets, ops, op-stmt, addrs, copies, takes, puts, reads, stores, gets, gives}
-pub use Rattle.slices.proofs.Lends.{units, begins, over, forgets, relends, joins, back, lends, home}
+pub use Rattle.slices.proofs.Lends.{units, begins, over, forgets, relends, joins, back, relends-ref, back-ref, lends, home}
 pub use Rattle.slices.proofs.Parts.{arrTo, freeS, joins-shr, joins-mut, relends-part, back-part, reshares-part, back-shr, shares-array, array-shr-back, lends-array, array-back}
 pub use Rattle.slices.proofs.Shape.{upd, loops, tests, breaks, ends, leaves, returns}
 pub use Rattle.slices.proofs.Calls.{Callee, Knows, _&_, no-more, int, real, shr, mut-slice, mut-ref, by-val, by-num, by-lit, by-float, by-bool, by-slice, by-mut-slice, by-mut, calls}

@@ -1,4 +1,4 @@
--- Loans: a `&mut [R]` lent on to a call, and a local lent as `&mut R`. A loan is at a slot β of its own, which begins before it and ends after the call.
+-- Loans: a `&mut [R]` or a `&mut T` lent on to a call, and a local lent as `&mut R`. A loan is at a slot β of its own, which begins before it and ends after the call.
 -- Assumes nothing.
 use Prim.Native.Nat.{ℕ, zero, suc}
 use mathlib.Core.Path.{_≡_, refl}
@@ -8,13 +8,15 @@ use lib.Dec.{T}
 use mir.Syntax.{Ty, Body, seq, assign, place, copy, addrOf, aggregate, deref, field, tyInt, w64, tcons, tnil}
 use mir.Val.{hasTy, vptr}
 use prog.Memory.{fieldOf, fieldAt}
+use denote.RattleType.{RattleType}
 use denote.Slice.{sliceTy, sliceVal}
 use borrow.Table.Row.{Cx, Life, IsTok, Fresh, getLife, setLife, alive, dead, off}
-use borrow.Table.Rows.{whole, mref, mleft, sc-owed}
+use borrow.Table.Rows.{whole, mref, mref-owed, mleft, sc-owed}
 use borrow.Table.Typed as Ty
 use borrow.Table.Typed.{Outs}
 use borrow.Rule.Scalar.{opO}
 use borrow.Rule.Local as Local
+use borrow.Rule.Reborrow as Reborrow
 use borrow.Rule.Local.{AfterLend, whole-mem}
 use borrow.Rule.Lifetime.{Begun, Ended, Forgot, g-begin, g-end, g-forget}
 use borrow.Rule.Slice.Relend as Relend
@@ -64,6 +66,19 @@ module _ {w : Wd} {Γ : Cx} {b : Body} {Δ : Outs} (s : Kin) where
   abbrev pub back : (α β x m : ℕ) (τ τ′ : Ty) (l : Life) → View w (Ty.ent₁ Γ x m .1) (msleft (R s) τ′) → View w (Ty.ent₂ Γ x m .1) (Relend.mslice-owed (R s) τ α β l) → getLife β (Γ .slots) ≡ dead → getLife α (setLife β dead (setLife β off (Γ .slots))) ≡ off
       → Dv w (Relend.AfterBack (R s) Γ x m α β τ τ′ l) b Δ → Dv w Γ b Δ
   back α β x m τ τ′ l vx vm e₁ e₂ d = quiet (Relend.g-back-sl (w .𝓤) (w .H) (w .A) (w .W) (w .E) (R s) Γ x m α β τ τ′ l (vx .h) (vm .h) (vx .is) (vm .is) e₁ e₂) d
+
+-- ---- a `&mut X` of the type τ, at the slot α, lent on at β as one of the type τ′
+
+module _ {w : Wd} {Γ : Cx} {b : Body} {Δ : Outs} (X : RattleType) where
+  -- `_p = addrOf (*_m)`, where σ is the type that is written there
+  abbrev pub relends-ref : (α β m p : ℕ) (σ τ τ′ : Ty) → View w (Ty.ent₁ Γ m p .1) (mref X τ α) → Free w (Ty.ent₂ Γ m p .1) τ′ → IsTok (getLife α (Γ .slots)) → spot w (Ty.ent₁ Γ m p .0) ≡ τ → spot w (Ty.ent₂ Γ m p .0) ≡ τ′ → ((i j : ℕ) → T (hasTy τ′ (vptr i j)))
+      → Dv w (Reborrow.Relent Γ m p α β X τ τ′ (getLife α (Γ .slots)) (setLife α off (Γ .slots))) b Δ → Dv w Γ (seq (assign (place (Ty.ent₂ Γ m p .0) []) (addrOf (place (Ty.ent₁ Γ m p .0) (deref σ ∷ [])))) b) Δ
+  relends-ref α β m p σ τ τ′ v f live em ep typed d = then (Reborrow.t-mref-relend (w .𝓤) (w .H) (w .A) (w .W) (w .E) (w .𝓣) Γ m p α β X σ τ τ′ (getLife α (Γ .slots)) (v .h) (v .is) (f .room) refl live em ep typed) d
+
+  -- no statement: the loan _x of _m is over, and _m holds what the callee left; l is the state of α while it was lent
+  abbrev pub back-ref : (α β x m : ℕ) (τ τ′ : Ty) (l : Life) → View w (Ty.ent₁ Γ x m .1) (mleft X τ′) → View w (Ty.ent₂ Γ x m .1) (mref-owed X τ α β l) → getLife β (Γ .slots) ≡ dead → getLife α (setLife β dead (setLife β off (Γ .slots))) ≡ off
+      → Dv w (Reborrow.Back Γ x m α X τ τ′ (setLife α l (setLife β dead (setLife β off (Γ .slots))))) b Δ → Dv w Γ b Δ
+  back-ref α β x m τ τ′ l vx vm e₁ e₂ d = quiet (Reborrow.g-back-mref (w .𝓤) (w .H) (w .A) (w .W) (w .E) Γ x m α β X τ τ′ l (vx .h) (vm .h) (vx .is) (vm .is) e₁ e₂) d
 
 -- ---- a local `_x: R` lent at β as a `&mut R` of the type τ
 

@@ -1,22 +1,22 @@
-// Lines of standard input, in a buffer by value.
+// Lines of standard input, as parts of a lent buffer.
+ghost use Prim.Native.Nat.{_≤_};
 use crate::out;
-use crate::out::Head;
 use calls::call;
 use calls::call::Call;
 use calls::verb::Verb;
+use reasons::Reason;
 use words::word;
+use words::word::Word;
 
 // The bytes read so far are the first `filled`. Where there is a line (`found`), it is from `start`
-// to before `end`; the bytes from `next` on are of later lines. `head` has the number of lines found
-// and the last one's first word. A line that does not fit is `long`; while its end is looked for,
-// `skips`.
+// to before `end`, and `line` is its number; the bytes from `next` on are of later lines. A line that
+// does not fit is `long`; while its end is looked for, `skips`.
 pub struct Input {
-    pub bytes: [u8; 65536],
     pub filled: usize,
     pub start: usize,
     pub end: usize,
     pub next: usize,
-    pub head: Head,
+    pub line: u64,
     pub found: bool,
     pub long: bool,
     pub skips: bool,
@@ -26,12 +26,11 @@ pub struct Input {
 
 pub fn start() -> Input {
     Input {
-        bytes: [0; 65536],
         filled: 0,
         start: 0,
         end: 0,
         next: 0,
-        head: out::head_of(0, b""),
+        line: 0,
         found: false,
         long: false,
         skips: false,
@@ -55,6 +54,47 @@ fn line_end(bytes: &[u8], at: usize, filled: usize) -> usize {
     filled
 }
 
+// The line from `next` to before `end`.
+fn line_before(x: Input, end: usize) -> Input {
+    let mut y = x;
+    y.start = x.next;
+    y.end = end;
+    y.next = end;
+    if end < x.filled {
+        y.next = end + 1;
+    }
+    if x.line < 18446744073709551615 {
+        y.line = x.line + 1;
+    }
+    y.found = true;
+    y.long = x.skips;
+    y.skips = false;
+    y
+}
+
+// The next of the lines that were read; none where more has to be read, and not `open` once there is
+// none to come.
+pub fn next(bytes: &[u8], x: Input) -> Input {
+    let end = line_end(bytes, x.next, x.filled);
+    if end < x.filled {
+        return line_before(x, end);
+    }
+    if x.ended {
+        if x.next < x.filled || x.skips {
+            return line_before(x, end);
+        }
+    }
+    let mut y = x;
+    y.found = false;
+    y.open = !x.ended;
+    y
+}
+
+// Is there no line before more is read?
+pub fn is_short(x: Input) -> bool {
+    x.open && !x.found
+}
+
 // Moves the bytes from `from` to before `filled` to the front.
 fn move_down(bytes: &mut [u8], from: usize, filled: usize) {
     let mut i: usize = 0;
@@ -72,107 +112,75 @@ fn move_down(bytes: &mut [u8], from: usize, filled: usize) {
     }
 }
 
-// Reads behind the first `filled` bytes, and answers how many came.
-fn read_more(bytes: &mut [u8], filled: usize) -> usize {
+// How many bytes came, and whether the read failed.
+struct Got {
+    count: usize,
+    failed: bool,
+}
+
+// Reads behind the first `filled` bytes. A read that fails is told on standard error.
+fn read_more(bytes: &mut [u8], filled: usize) -> Got {
     if filled > bytes.len() {
-        return 0;
+        return Got {
+            count: 0,
+            failed: false,
+        };
     }
     let got = libc::read(0, &mut bytes[filled..]);
-    io::count(got, &bytes[filled..])
-}
-
-// The head of the line's own first word.
-fn named_head(line: &[u8], number: u64) -> Head {
-    let w = word::word_at(line, 0);
-    let from = w.from;
-    let to = w.to;
-    out::head_of(number, &line[from..to])
-}
-
-// The head of the line behind that of `last`, from `at` to before `end`.
-fn head_after(last: Head, bytes: &[u8], at: usize, end: usize) -> Head {
-    let mut number = last.line;
-    if number < 18446744073709551615 {
-        number = number + 1;
+    if got < 0 {
+        os::fail(b"rehearse: standard input");
     }
-    if at <= end {
-        if end <= bytes.len() {
-            return named_head(&bytes[at..end], number);
-        }
+    Got {
+        count: io::count(got, &bytes[filled..]),
+        failed: got < 0,
     }
-    out::head_of(number, b"")
 }
 
-// The line from `at` to before `end`.
-fn line_at(x: Input, at: usize, end: usize, head: Head) -> Input {
+// The bytes behind the last line: how many there are. A buffer full of one line has none: its bytes
+// go, and its end is looked for.
+fn left(x: Input) -> usize {
+    if x.next == 0 && x.filled == 65536 {
+        return 0;
+    }
+    if x.next > x.filled {
+        return 0;
+    }
+    x.filled - x.next
+}
+
+// Reads more, behind the bytes that are left, which go to the front. After a read that failed there
+// is no line to come.
+pub fn refilled(bytes: &mut [u8; 65536], x: Input) -> Input {
+    let kept = left(x);
+    move_down(bytes, x.next, x.filled);
+    let got = read_more(bytes, kept);
     let mut y = x;
-    y.start = at;
-    y.end = end;
-    y.next = end;
-    if end < x.filled {
-        y.next = end + 1;
-    }
-    y.head = head;
-    y.found = true;
-    y.long = x.skips;
-    y.skips = false;
-    y
-}
-
-// No line yet: the rest goes to the front, and more is read behind it.
-fn refilled(x: Input) -> Input {
-    let mut bytes = x.bytes;
-    let mut left: usize = 0;
-    if x.next <= x.filled {
-        left = x.filled - x.next;
-    }
-    move_down(&mut bytes, x.next, x.filled);
-    let got = read_more(&mut bytes, left);
-    let mut y = x;
-    y.bytes = bytes;
+    y.skips = x.skips || (x.next == 0 && x.filled == 65536);
     y.next = 0;
     y.filled = 65536;
-    if left < 65536 {
-        if got <= 65536 - left {
-            y.filled = left + got;
+    if kept < 65536 {
+        if got.count <= 65536 - kept {
+            y.filled = kept + got.count;
         }
     }
-    y.ended = got == 0;
+    y.ended = got.count == 0;
+    y.open = !got.failed;
     y.found = false;
     y
 }
 
-// A buffer full of one line: its bytes go, and its end is looked for.
-fn emptied(x: Input) -> Input {
-    let mut y = x;
-    y.next = 0;
-    y.filled = 0;
-    y.skips = true;
-    y.found = false;
-    y
-}
-
-// The next line, or none yet; not `open` once there is none to come.
-pub fn next(x: Input) -> Input {
-    let bytes = x.bytes;
-    let last = x.head;
-    let end = line_end(&bytes, x.next, x.filled);
-    if end < x.filled {
-        return line_at(x, x.next, end, head_after(last, &bytes, x.next, end));
+// Where the line that was found is, in a buffer of this length.
+pub fn line(x: Input, length: usize) -> Word
+    ensures { λ r. ⌜ r .from ≤ r .to ⌝ }
+    ensures { λ r. ⌜ r .to ≤ length ⌝ }
+{
+    if x.start > x.end || x.end > length {
+        return Word { from: 0, to: 0 };
     }
-    if x.ended {
-        if x.next < x.filled || x.skips {
-            return line_at(x, x.next, end, head_after(last, &bytes, x.next, end));
-        }
-        let mut y = x;
-        y.open = false;
-        y.found = false;
-        return y;
+    Word {
+        from: x.start,
+        to: x.end,
     }
-    if x.next == 0 && x.filled == 65536 {
-        return emptied(x);
-    }
-    refilled(x)
 }
 
 fn is_comment(line: &[u8]) -> bool {
@@ -194,22 +202,24 @@ fn call_of(line: &[u8], rows: usize) -> Call {
 }
 
 // The call of the line that was found, for a program whose log has so many rows.
-pub fn call_in(x: Input, rows: usize) -> Call {
+pub fn call_in(bytes: &[u8], x: Input, rows: usize) -> Call {
     if !x.found {
         return call::plain(Verb::Blank);
     }
     if x.long {
         return call::plain(Verb::Malformed);
     }
-    let bytes = x.bytes;
-    let start = x.start;
-    let end = x.end;
-    if start <= end {
-        if end <= 65536 {
-            return call_of(&bytes[start..end], rows);
-        }
-    }
-    call::plain(Verb::Malformed)
+    let w = line(x, bytes.len());
+    let from = w.from;
+    let to = w.to;
+    call_of(&bytes[from..to], rows)
+}
+
+fn put_verb(out: &mut [u8; 65536], at: usize, line: &[u8]) -> usize {
+    let w = word::word_at(line, 0);
+    let from = w.from;
+    let to = w.to;
+    out::put(out, at, &line[from..to])
 }
 
 fn is_malformed(c: Call) -> bool {
@@ -220,11 +230,27 @@ fn is_malformed(c: Call) -> bool {
     }
 }
 
-// The head of the answer to the line that was found: its verb as it was read, or `malformed`.
-pub fn head_in(x: Input, c: Call) -> Head {
-    let head = x.head;
+// Puts the head of the answer to the line that was found: its number, and its first word or
+// `malformed`.
+pub fn put_head(out: &mut [u8; 65536], at: usize, bytes: &[u8], x: Input, c: Call) -> usize {
+    let mut n = out::put_whole(out, at, x.line);
+    n = out::put(out, n, b" ");
     if is_malformed(c) {
-        return out::head_of(head.line, b"malformed");
+        return out::put(out, n, b"malformed");
     }
-    head
+    let w = line(x, bytes.len());
+    let from = w.from;
+    let to = w.to;
+    put_verb(out, n, &bytes[from..to])
+}
+
+// Why the line that was found is malformed, for a program whose log has so many rows.
+pub fn reason_in(bytes: &[u8], x: Input, rows: usize) -> Reason {
+    if x.long {
+        return reasons::too_long();
+    }
+    let w = line(x, bytes.len());
+    let from = w.from;
+    let to = w.to;
+    reasons::of_line(&bytes[from..to], rows as u64)
 }

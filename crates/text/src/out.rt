@@ -1,4 +1,5 @@
-// Text on its way out: a buffer that is written when it is full.
+// Text on its way out: a buffer that is written when it is full, and before the program waits for
+// input.
 use market::order::Order;
 use market::order::OrderType;
 use market::quote::Quote;
@@ -8,11 +9,11 @@ use words::number;
 
 // Copies `s` behind the first `at` bytes as far as there is room, and answers how many stand there
 // then.
-fn copied(out: &mut [u8; 4096], at: usize, s: &[u8]) -> usize {
+fn copied(out: &mut [u8; 65536], at: usize, s: &[u8]) -> usize {
     let mut n = at;
     let mut i: usize = 0;
     while i < s.len() {
-        if n >= 4096 {
+        if n >= 65536 {
             break;
         }
         out[n] = s[i];
@@ -22,40 +23,53 @@ fn copied(out: &mut [u8; 4096], at: usize, s: &[u8]) -> usize {
     n
 }
 
-fn write_first(s: &[u8], n: usize) {
+fn write_first(s: &[u8], n: usize) -> bool {
     if n <= s.len() {
-        io::write_all(1, &s[..n]);
+        return io::write_all(1, &s[..n]);
     }
+    false
 }
 
-// Writes the first `n` bytes.
-pub fn flush(out: &[u8; 4096], n: usize) {
-    write_first(out, n);
+// Where a buffer stands after a write that failed: behind its end, so that nothing is put there.
+fn nowhere() -> usize {
+    65537
+}
+
+// Did a write fail?
+pub fn is_lost(at: usize) -> bool {
+    at > 65536
+}
+
+// Writes the first `at` bytes, and answers where the next are put. A write that fails is told on
+// standard error.
+pub fn flush(out: &[u8; 65536], at: usize) -> usize {
+    if is_lost(at) {
+        return at;
+    }
+    if write_first(out, at) {
+        return 0;
+    }
+    os::fail(b"rehearse: standard output");
+    nowhere()
 }
 
 // Puts `s`, of at most 64 bytes, behind the first `at` bytes, which are written first where there
 // is no room for it, and answers how many bytes stand there then.
-pub fn put(out: &mut [u8; 4096], at: usize, s: &[u8]) -> usize {
-    if at < 4000 {
+pub fn put(out: &mut [u8; 65536], at: usize, s: &[u8]) -> usize {
+    if at < 65472 {
         return copied(out, at, s);
     }
-    flush(out, at);
-    copied(out, 0, s)
+    let n = flush(out, at);
+    copied(out, n, s)
 }
 
-// Ends the line: writes it.
-pub fn end_line(out: &mut [u8; 4096], at: usize) {
-    let n = put(out, at, b"\n");
-    flush(out, n);
-}
-
-pub fn put_whole(out: &mut [u8; 4096], at: usize, x: u64) -> usize {
+pub fn put_whole(out: &mut [u8; 65536], at: usize, x: u64) -> usize {
     let mut t = [0u8; 20];
     let k = io::decimal(x, &mut t);
     put(out, at, &t[..k])
 }
 
-fn put_signed(out: &mut [u8; 4096], at: usize, x: i64) -> usize {
+fn put_signed(out: &mut [u8; 65536], at: usize, x: i64) -> usize {
     if x < 0 {
         let n = put(out, at, b"-");
         return put_whole(out, n, number::magnitude(x));
@@ -64,7 +78,7 @@ fn put_signed(out: &mut [u8; 4096], at: usize, x: i64) -> usize {
 }
 
 // The bits' digits; all NaNs are written alike.
-pub fn put_float(out: &mut [u8; 4096], at: usize, x: f64) -> usize {
+pub fn put_float(out: &mut [u8; 65536], at: usize, x: f64) -> usize {
     if x != x {
         return put(out, at, b"7ff8000000000000");
     }
@@ -73,7 +87,7 @@ pub fn put_float(out: &mut [u8; 4096], at: usize, x: f64) -> usize {
     put(out, at, &t[..k])
 }
 
-fn put_kind(out: &mut [u8; 4096], at: usize, k: OrderType) -> usize {
+fn put_kind(out: &mut [u8; 65536], at: usize, k: OrderType) -> usize {
     match k {
         OrderType::MarketSell => put(out, at, b"ms:"),
         OrderType::MarketBuy => put(out, at, b"mb:"),
@@ -85,13 +99,13 @@ fn put_kind(out: &mut [u8; 4096], at: usize, k: OrderType) -> usize {
 }
 
 // A symbol, a colon and an amount.
-fn put_amount(out: &mut [u8; 4096], at: usize, symbol: u64, x: f64) -> usize {
+fn put_amount(out: &mut [u8; 65536], at: usize, symbol: u64, x: f64) -> usize {
     let mut n = put_whole(out, at, symbol);
     n = put(out, n, b":");
     put_float(out, n, x)
 }
 
-pub fn put_order(out: &mut [u8; 4096], at: usize, o: Order) -> usize {
+pub fn put_order(out: &mut [u8; 65536], at: usize, o: Order) -> usize {
     let k = o.kind;
     let mut n = put_kind(out, at, k);
     n = put_amount(out, n, o.symbol as u64, o.shares);
@@ -103,26 +117,26 @@ pub fn put_order(out: &mut [u8; 4096], at: usize, o: Order) -> usize {
 }
 
 // An amount, a colon and a date, after a colon.
-fn put_dated(out: &mut [u8; 4096], at: usize, x: f64, date: i64) -> usize {
+fn put_dated(out: &mut [u8; 65536], at: usize, x: f64, date: i64) -> usize {
     let mut n = put(out, at, b":");
     n = put_float(out, n, x);
     n = put(out, n, b":");
     put_signed(out, n, date)
 }
 
-fn put_quote(out: &mut [u8; 4096], at: usize, q: Quote) -> usize {
+fn put_quote(out: &mut [u8; 65536], at: usize, q: Quote) -> usize {
     let n = put_amount(out, at, q.symbol as u64, q.bid);
     put_dated(out, n, q.ask, q.date)
 }
 
-fn put_side(out: &mut [u8; 4096], at: usize, typ: TradeType) -> usize {
+fn put_side(out: &mut [u8; 65536], at: usize, typ: TradeType) -> usize {
     match typ {
         TradeType::Buy => put(out, at, b" buy:"),
         TradeType::Sell => put(out, at, b" sell:"),
     }
 }
 
-pub fn put_trade(out: &mut [u8; 4096], at: usize, t: Trade) -> usize {
+pub fn put_trade(out: &mut [u8; 65536], at: usize, t: Trade) -> usize {
     let typ = t.typ;
     let mut n = put_side(out, at, typ);
     n = put_amount(out, n, t.symbol as u64, t.quantity);
@@ -130,80 +144,36 @@ pub fn put_trade(out: &mut [u8; 4096], at: usize, t: Trade) -> usize {
 }
 
 // A whole number, after a space.
-pub fn put_whole_word(out: &mut [u8; 4096], at: usize, x: u64) -> usize {
+pub fn put_whole_word(out: &mut [u8; 65536], at: usize, x: u64) -> usize {
     let n = put(out, at, b" ");
     put_whole(out, n, x)
 }
 
 // A float, after a space.
-pub fn put_float_word(out: &mut [u8; 4096], at: usize, x: f64) -> usize {
+pub fn put_float_word(out: &mut [u8; 65536], at: usize, x: f64) -> usize {
     let n = put(out, at, b" ");
     put_float(out, n, x)
 }
 
 // An order, after a space.
-pub fn put_order_word(out: &mut [u8; 4096], at: usize, o: Order) -> usize {
+pub fn put_order_word(out: &mut [u8; 65536], at: usize, o: Order) -> usize {
     let n = put(out, at, b" ");
     put_order(out, n, o)
 }
 
 // A quote, after a space.
-pub fn put_quote_word(out: &mut [u8; 4096], at: usize, q: Quote) -> usize {
+pub fn put_quote_word(out: &mut [u8; 65536], at: usize, q: Quote) -> usize {
     let n = put(out, at, b" ");
     put_quote(out, n, q)
 }
 
 // A symbol with its amount, after a space.
-pub fn put_entry(out: &mut [u8; 4096], at: usize, symbol: u64, x: f64) -> usize {
+pub fn put_entry(out: &mut [u8; 65536], at: usize, symbol: u64, x: f64) -> usize {
     let n = put(out, at, b" ");
     put_amount(out, n, symbol, x)
 }
 
-pub fn put_refused(out: &mut [u8; 4096], at: usize, fault: u32) -> usize {
+pub fn put_refused(out: &mut [u8; 65536], at: usize, fault: u32) -> usize {
     let n = put(out, at, b" refused ");
     put_whole(out, n, fault as u64)
-}
-
-// The head of an answer: the line's number and a word, the first `length` bytes of `word`.
-pub struct Head {
-    pub line: u64,
-    pub word: [u8; 64],
-    pub length: usize,
-}
-
-// The head of this number and this word, of at most 64 bytes.
-pub(crate) fn head_of(line: u64, word: &[u8]) -> Head {
-    let mut bytes = [0u8; 64];
-    let mut i: usize = 0;
-    while i < word.len() {
-        if i >= 64 {
-            break;
-        }
-        bytes[i] = word[i];
-        i = i + 1;
-    }
-    Head {
-        line: line,
-        word: bytes,
-        length: i,
-    }
-}
-
-fn put_first(out: &mut [u8; 4096], at: usize, word: &[u8], length: usize) -> usize {
-    if length <= word.len() {
-        return put(out, at, &word[..length]);
-    }
-    at
-}
-
-// Starts a line with a head, and `refused` and the number where one was drawn.
-pub fn put_head(out: &mut [u8; 4096], head: Head, fault: u32) -> usize {
-    let mut n = put_whole(out, 0, head.line);
-    n = put(out, n, b" ");
-    let word = head.word;
-    n = put_first(out, n, &word, head.length);
-    if fault == 0 {
-        return n;
-    }
-    put_refused(out, n, fault)
 }

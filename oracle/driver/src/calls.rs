@@ -17,6 +17,7 @@ use rotala_http::http::uist_v1::{Fetched, LocalClient, Market};
 use crate::clock::Clock;
 use crate::line::{call, Call, MOST_BYTES};
 use crate::lists::{put_list, sorted_holdings, sorted_names, sorted_quotes};
+use crate::reason::reason;
 use crate::shared::{Broker, Event, SharedBroker};
 use crate::state::{state_word, Logged};
 use crate::text::{
@@ -104,6 +105,14 @@ fn put_cash(out: &mut Vec<u8>, event: &BrokerCashEvent) {
     put_float(out, *amount);
 }
 
+fn put_malformed(out: &mut Vec<u8>, (word, reason): (usize, &str)) {
+    put(out, "malformed ");
+    put_whole(out, word as u64);
+    out.push(b' ');
+    put(out, reason);
+    out.push(b'\n');
+}
+
 /// Whether the broker's holdings are written after this call, where they are written after each.
 fn shows_state(call: &Call) -> bool {
     !matches!(call, Call::Lend | Call::Round(..) | Call::Quiet(_) | Call::Clock)
@@ -138,7 +147,7 @@ impl Driver {
                 self.out.extend_from_slice(words[0]);
                 self.known(call);
             }
-            None => put(&mut self.out, "malformed\n"),
+            None => put_malformed(&mut self.out, reason(line, &words)),
         }
     }
 

@@ -12,9 +12,9 @@ use crate::state::turnover;
 use crate::text::{cost, float, order, quote, symbol, weight, whole};
 
 pub const MOST_BYTES: usize = 65_535;
-const MOST_ROWS: usize = 512;
-const MOST_ORDERS: usize = 1_024;
-const MOST_COSTS: usize = 32;
+pub const MOST_ROWS: usize = 512;
+pub const MOST_ORDERS: usize = 1_024;
+pub const MOST_COSTS: usize = 32;
 const MOST_ROOM: u64 = 1_024;
 
 pub enum Call {
@@ -71,7 +71,7 @@ fn weights(words: Words) -> Option<PortfolioValues> {
     rows(words, MOST_ROWS, weight)
 }
 
-fn room(word: &[u8]) -> Option<u64> {
+pub fn room(word: &[u8]) -> Option<u64> {
     whole(word).filter(|room| *room <= MOST_ROOM)
 }
 

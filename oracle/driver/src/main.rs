@@ -4,6 +4,7 @@ mod calls;
 mod clock;
 mod line;
 mod lists;
+mod reason;
 mod shared;
 mod state;
 mod text;

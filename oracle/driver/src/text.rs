@@ -26,7 +26,7 @@ pub fn symbol(word: &[u8]) -> Option<String> {
     Some(format!("{number:03}"))
 }
 
-fn date(word: &[u8]) -> Option<i64> {
+pub fn date(word: &[u8]) -> Option<i64> {
     let (sign, digits) = match word.strip_prefix(b"-") {
         Some(digits) => (-1, digits),
         None => (1, word),
@@ -34,7 +34,7 @@ fn date(word: &[u8]) -> Option<i64> {
     i64::try_from(sign * i128::from(whole(digits)?)).ok()
 }
 
-fn kind(word: &[u8]) -> Option<OrderType> {
+pub fn kind(word: &[u8]) -> Option<OrderType> {
     Some(match word {
         b"mb" => OrderType::MarketBuy,
         b"ms" => OrderType::MarketSell,
@@ -46,7 +46,7 @@ fn kind(word: &[u8]) -> Option<OrderType> {
     })
 }
 
-fn parts<const N: usize>(word: &[u8]) -> Option<[&[u8]; N]> {
+pub fn parts<const N: usize>(word: &[u8]) -> Option<[&[u8]; N]> {
     let parts: Vec<&[u8]> = word.split(|byte| *byte == b':').collect();
     parts.try_into().ok()
 }
@@ -85,7 +85,11 @@ pub fn weight(word: &[u8]) -> Option<(String, f64)> {
 
 pub fn cost(word: &[u8]) -> Option<BrokerCost> {
     let [case, amount] = parts(word)?;
-    let amount = float(amount)?;
+    cost_of(case, float(amount)?)
+}
+
+/// The cost of this name.
+pub fn cost_of(case: &[u8], amount: f64) -> Option<BrokerCost> {
     Some(match case {
         b"per_share" => BrokerCost::per_share(amount),
         b"pct_of_value" => BrokerCost::pct_of_value(amount),

@@ -22,8 +22,8 @@ mul-e c = search needs
 array-copy-out-e : tie.Need-array-copy-out-e Inv-loop μ-loop
 array-copy-out-e c = search needs
 
-put-event-requires : tie.Need-put-event-requires Inv-loop μ-loop
-put-event-requires c κs = search needs
+event-requires : tie.Need-event-requires Inv-loop μ-loop
+event-requires c κs = search needs
 
 add-i : tie.Need-add-i Inv-loop μ-loop
 add-i c = search needs
@@ -50,7 +50,7 @@ put-events-spec =
     loop-holds
     mul-e
     array-copy-out-e
-    put-event-requires
+    event-requires
     add-i
     loop-less
     loop-again

@@ -1,14 +1,16 @@
 -- `state::latest` is safe and ends. Assumes nothing.
+use mathlib.Core.Path.{_≡_}
+use lib.ListN.{length}
 use Prim.Native.Nat.{_-_}
 use borrow.Author.Needs.{needs}
 use Rattle.report.proofs.state.latest.Statement.{statement}
 use Rattle.report.proofs.state.latest.Tie as tie
 
 abbrev Inv-loop : tie.InvT-loop
-Inv-loop quotes t₀ n₀ i₀ t n i = Unit
+Inv-loop t₀ at quotes n₀ i₀ t9 t n i = length t9 ≡ 1
 
 abbrev μ-loop : tie.MeasureT-loop
-μ-loop quotes t₀ n₀ i₀ t n i = 256 - i
+μ-loop t₀ at quotes n₀ i₀ t9 t n i = 256 - i
 
 slice-aggregate-put : tie.Need-slice-aggregate-put Inv-loop μ-loop
 slice-aggregate-put c = search needs
@@ -40,8 +42,11 @@ loop-less c = search needs
 loop-again : tie.Need-loop-again Inv-loop μ-loop
 loop-again c = search needs
 
-end-line-requires : tie.Need-end-line-requires Inv-loop μ-loop
-end-line-requires c κs = search needs
+slice-aggregate-put-2 : tie.Need-slice-aggregate-put-2 Inv-loop μ-loop
+slice-aggregate-put-2 c = search needs
+
+put-requires-2 : tie.Need-put-requires-2 Inv-loop μ-loop
+put-requires-2 c κs = search needs
 
 returns : tie.Need-returns Inv-loop μ-loop
 returns c = search needs
@@ -62,5 +67,6 @@ latest-spec =
     add-i
     loop-less
     loop-again
-    end-line-requires
+    slice-aggregate-put-2
+    put-requires-2
     returns)

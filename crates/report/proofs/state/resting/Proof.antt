@@ -1,16 +1,16 @@
 -- `state::resting` is safe and ends. Assumes nothing.
-use Prim.Native.Nat.{_-_}
 use mathlib.Core.Path.{_≡_}
 use lib.ListN.{length}
+use Prim.Native.Nat.{_-_}
 use borrow.Author.Needs.{needs}
 use Rattle.report.proofs.state.resting.Statement.{statement}
 use Rattle.report.proofs.state.resting.Tie as tie
 
 abbrev Inv-loop : tie.InvT-loop
-Inv-loop e t₀ n₀ c i₀ t10 t n i = length t10 ≡ 1
+Inv-loop t₀ at e n₀ c i₀ t11 t12 t n i = (length t11 ≡ 1) × (length t12 ≡ 1)
 
 abbrev μ-loop : tie.MeasureT-loop
-μ-loop e t₀ n₀ c i₀ t10 t n i = 1024 - i
+μ-loop t₀ at e n₀ c i₀ t11 t12 t n i = 1024 - i
 
 slice-aggregate-put : tie.Need-slice-aggregate-put Inv-loop μ-loop
 slice-aggregate-put c = search needs
@@ -48,8 +48,11 @@ loop-less c = search needs
 loop-again : tie.Need-loop-again Inv-loop μ-loop
 loop-again c = search needs
 
-end-line-requires : tie.Need-end-line-requires Inv-loop μ-loop
-end-line-requires c κs = search needs
+slice-aggregate-put-3 : tie.Need-slice-aggregate-put-3 Inv-loop μ-loop
+slice-aggregate-put-3 c = search needs
+
+put-requires-3 : tie.Need-put-requires-3 Inv-loop μ-loop
+put-requires-3 c κs = search needs
 
 returns : tie.Need-returns Inv-loop μ-loop
 returns c = search needs
@@ -72,5 +75,6 @@ resting-spec =
     add-i
     loop-less
     loop-again
-    end-line-requires
+    slice-aggregate-put-3
+    put-requires-3
     returns)

@@ -5,10 +5,10 @@ use Rattle.report.proofs.state.waiting.Statement.{statement}
 use Rattle.report.proofs.state.waiting.Tie as tie
 
 abbrev Inv-loop : tie.InvT-loop
-Inv-loop e t₀ n₀ c i₀ t n i = Unit
+Inv-loop t₀ at e n₀ c i₀ t n i = Unit
 
 abbrev μ-loop : tie.MeasureT-loop
-μ-loop e t₀ n₀ c i₀ t n i = 1024 - i
+μ-loop t₀ at e n₀ c i₀ t n i = 1024 - i
 
 slice-aggregate-put : tie.Need-slice-aggregate-put Inv-loop μ-loop
 slice-aggregate-put c = search needs
@@ -37,9 +37,6 @@ loop-less c = search needs
 loop-again : tie.Need-loop-again Inv-loop μ-loop
 loop-again c = search needs
 
-flush-requires : tie.Need-flush-requires Inv-loop μ-loop
-flush-requires c κs = search needs
-
 returns : tie.Need-returns Inv-loop μ-loop
 returns c = search needs
 
@@ -58,5 +55,4 @@ waiting-spec =
     add-i
     loop-less
     loop-again
-    flush-requires
     returns)
