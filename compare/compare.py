@@ -156,8 +156,7 @@ def compare_damaged(given, check):
     table.damaged(met, forms.REASONS)
     if fault is not None:
         return [fault]
-    unmet = [why.decode() for why in forms.REASONS if count and not met[why]]
-    return ["no damaged line was malformed for the reason `%s`" % why for why in unmet]
+    return ["no damaged line was malformed for the reason `%s`" % why for why in (forms.unmet(met) if count else [])]
 
 
 def try_liars(given):

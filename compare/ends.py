@@ -37,9 +37,9 @@ def from_folder(engine):
             os.close(place)
 
 
-def to_full_disk(engine):
+def to_full_disk(*words):
     with open("/dev/full", "wb") as full:
-        return run([engine], out=full)
+        return run(words, out=full)
 
 
 def over_pipe(engine):
@@ -73,10 +73,12 @@ def stack_told(limit, need):
     return b"rehearse: the stack's limit is %d KB, and this run needs %d KB: ulimit -s %d\n" % (limit, need, need)
 
 
+FULL = b"rehearse: standard output: No space left on device\n"
 # what is tried: how, what is written, what is told
 ENDS = {
     "a folder as the input": (from_folder, b"", b"rehearse: standard input: Is a directory\n"),
-    "a disk that is full": (to_full_disk, b"", b"rehearse: standard output: No space left on device\n"),
+    "a disk that is full": (to_full_disk, b"", FULL),
+    "`--help`, and a disk that is full": (lambda e: to_full_disk(e, "--help"), b"", FULL),
     "a line at a time over a pipe": (over_pipe, ANSWERS, b""),
     "a reader that goes": (to_gone_reader, ANSWERS.splitlines(keepends=True)[0], b""),
     "a stack of 4,096 KB": (lambda e: run([e], stack=4096), ANSWERS, b""),

@@ -160,3 +160,8 @@ def reason(line, rows):
 def answered(lines, rows):
     """The lines that have an answer: the number and the line, and the word and reason of a malformed one or None."""
     return [(number, line, reason(line, rows)) for number, line in enumerate(lines, 1) if not passed_over(line)]
+
+
+def unmet(met):
+    """The reasons that are not among these."""
+    return [why.decode() for why in REASONS if why not in met]

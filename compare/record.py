@@ -2,8 +2,8 @@
 writes crates/rehearse/stdout, and the lists at the end of docs/RECORDED.md. A line's answer is the Rust's
 until an added number is due or the Rust panics; from there to the next `new` it rests on document 01 alone,
 by model.py, which the engine must equal on every line. Which lines are malformed, and why, is said by forms.py.
-Exit status 1 where the engine differs from one of them, or, with --check, where the files are not what would be
-written."""
+Exit status 1 where the engine differs from one of them, where a reason has no malformed line, or, with --check,
+where the files are not what would be written."""
 
 import argparse
 import os
@@ -68,10 +68,18 @@ def for_driver(lines):
     return given
 
 
+def has_every_reason(found):
+    """Raises Difference where no line is malformed for one of the reasons: an editor may have mended line ends."""
+    unmet = forms.unmet({why.partition(b" ")[2] for _number, _line, why in found if why is not None})
+    if unmet:
+        raise judge.Difference("no line of stdin is malformed for the reason `%s`" % "`, `".join(unmet))
+
+
 def record(text, engine, oracle):
     """The recording; raises Difference where the engine differs from forms.py, the oracle or the model."""
     lines = text.split(b"\n")
     found = forms.answered(lines, LOG_ROWS)
+    has_every_reason(found)
     ones, others = run(engine, lines), run(oracle, for_driver(lines))
     recording = Recording()
     judging = judge.Judge(judge.Tally())

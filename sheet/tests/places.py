@@ -24,7 +24,8 @@ PLAN = "first deposit = 1000\n"
 
 
 def text_of(*parts):
-    with open(os.path.join(*parts), encoding="utf-8") as file:
+    """A file's text as it stands: line ends are kept."""
+    with open(os.path.join(*parts), encoding="utf-8", newline="") as file:
         return file.read()
 
 

@@ -52,14 +52,14 @@ def rows(text):
     return list(csv.DictReader(io.StringIO(text)))
 
 
-def lines_of(*parts):
-    with open(os.path.join(places.ROOT, *parts), encoding="utf-8") as file:
-        return file.read().splitlines()
+def recorded_lines(name):
+    """The lines of a file of the recording; a carriage return is part of its line."""
+    return places.text_of(places.ROOT, "crates", "rehearse", name).split("\n")
 
 
 def recorded_block():
     """The plan's lines of crates/rehearse/stdin, and the number of the first one."""
-    given = lines_of("crates", "rehearse", "stdin")
+    given = recorded_lines("stdin")
     first = next(at for at, line in enumerate(given) if line.startswith(RECORDED)) + 1
     return given[first:given.index("state", first) + 1], first + 1
 
@@ -115,7 +115,7 @@ class TwoFunds(unittest.TestCase):
     def test_written(self):
         self.assertEqual(sorted(os.listdir(self.folder)), sorted(self.files))
         for name, text in self.files.items():
-            self.assertEqual(lines_of(self.folder, name), text.splitlines())
+            self.assertEqual(places.text_of(self.folder, name), text)
         self.assertIn("Two funds, ten days", self.files["curve.svg"])
 
     def test_the_scenario_is_the_recorded_one(self):
@@ -123,7 +123,7 @@ class TwoFunds(unittest.TestCase):
         self.assertEqual(made, recorded_block()[0])
 
     def test_the_answers_are_the_recorded_ones(self):
-        (block, first), recorded = recorded_block(), lines_of("crates", "rehearse", "stdout")
+        (block, first), recorded = recorded_block(), recorded_lines("stdout")
         start = next(at for at, line in enumerate(recorded) if line.startswith(f"{first} "))
         answers = self.files["answers.txt"].splitlines()
         self.assertEqual(without_numbers(answers), without_numbers(recorded[start:start + len(answers)]))

@@ -21,13 +21,8 @@ fn liquidate_call(b: UistBroker, c: Call) -> Changed {
     }
 }
 
-fn order_call(b: UistBroker, c: Call) -> Changed {
-    let verb = c.verb;
-    let o = c.order;
-    let x = match verb {
-        Verb::Send => b.send_order(o),
-        _ => b.insert_order(o),
-    };
+fn insert_call(b: UistBroker, c: Call) -> Changed {
+    let x = b.insert_order(c.order);
     let broker = x.broker;
     let event = x.event;
     Changed {
@@ -45,12 +40,13 @@ fn delete_call(b: UistBroker, c: Call) -> Changed {
     }
 }
 
-// A liquidation, an order, or a deletion.
+// A liquidation, an insertion, or a deletion. Deposits, withdrawals and sends are made in the run's
+// own loop.
 pub fn changing_call(b: UistBroker, c: Call) -> Changed {
     let verb = c.verb;
     match verb {
         Verb::Liquidate => liquidate_call(b, c),
-        Verb::Send | Verb::Insert => order_call(b, c),
+        Verb::Insert => insert_call(b, c),
         _ => delete_call(b, c),
     }
 }

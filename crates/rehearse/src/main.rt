@@ -8,19 +8,18 @@ enum Asked {
     Large,
 }
 
+fn is_put(line: &[u8]) -> bool {
+    io::write_all(1, line)
+}
+
 fn help() {
-    io::write_all(
-        1,
-        b"rehearse [large] < scenario: reads a scenario, a call a line, and writes what\n",
-    );
-    io::write_all(
-        1,
-        b"each call answers and what the broker holds after it. The log has at most\n",
-    );
-    io::write_all(
-        1,
-        b"65536 rows, or with `large` 1048576. docs/SCENARIOS.md has the form.\n",
-    );
+    let is_told = is_put(b"rehearse [large] < scenario: reads a scenario, a call a line, and\n")
+        && is_put(b"writes what each call answers and what the broker holds after it.\n")
+        && is_put(b"The log has at most 65536 rows, or with `large` 1048576.\n")
+        && is_put(b"docs/SCENARIOS.md has the form.\n");
+    if !is_told {
+        os::fail(b"rehearse: standard output");
+    }
 }
 
 fn tell_unknown(word: &[u8]) {
