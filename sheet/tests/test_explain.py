@@ -26,7 +26,7 @@ TOLD = """\
            Done: 1 orders are listed.
              market buy of 5 of symbol 0
   line  7: nonsense
-           Malformed"""
+           Malformed at word 1: unknown call."""
 
 
 class Explained(places.Folder):

@@ -102,8 +102,8 @@ class Runs(places.Folder):
                    program=self.script(f"sed 's/get_total_value .*/get_total_value 3ff0000000000000/' {kept}\n"))
         self.fails("0 trades are shown, and 1 were counted",
                    program=self.script(f"sed 's/executed_trade_count .*/executed_trade_count 1/' {kept}\n"))
-        self.fails("the program's answer to 'new' is '5 malformed'",
-                   program=self.script(f"sed 's/^5 new built/5 malformed/' {kept}\n"))
+        self.fails("the program's answer to 'new' is '5 malformed 2 too large'",
+                   program=self.script(f"sed 's/^5 new built/5 malformed 2 too large/' {kept}\n"))
 
     def test_a_full_disk(self):
         self.fails("out: can't be written (File too large)", preexec_fn=small_files)
