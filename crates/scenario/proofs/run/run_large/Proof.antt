@@ -10,7 +10,6 @@ use borrow.Table.Row.{Cx, off}
 use borrow.Table.Typed.{Outs}
 use Rattle.lent.proofs.Rows.{trade}
 use Rattle.arrays.proofs.Lengths.{whole-fits, counted}
-use Rattle.scenario.proofs.Contracts as Contracts
 use Rattle.scenario.proofs.Contracts.{run-on as contract}
 use Rattle.scenario.proofs.run.run_large.Key.{name}
 use Rattle.scenario.proofs.run.run_large.Code as code

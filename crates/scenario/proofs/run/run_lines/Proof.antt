@@ -14,7 +14,6 @@ use mir.Syntax.{sub}
 use borrow.Rule.Reborrow.{reV}
 use Rattle.market.specs.declared.trade.Trade.{Trade}
 use Rattle.scenario.specs.declared.plain_lines.Run.{Run}
-use Rattle.scenario.proofs.Contracts as Contracts
 use Rattle.scenario.proofs.Contracts.{run-lines as contract}
 use Rattle.scenario.proofs.run.run_lines.Key.{name}
 use Rattle.scenario.proofs.run.run_lines.Code as code
