@@ -1,4 +1,4 @@
-"""Lists imported names that their file does not use, for the .rt and .antt files of crates/.
+"""Lists imported names that their file does not use, or brings in twice, for the .rt and .antt files of crates/.
 
     tools/unused.py [CRATE...]    one line for each name: FILE:LINE: NAME
 
@@ -67,13 +67,17 @@ def brought(m):
 
 
 def unused(text, imports, used):
-    """(line, name) of each name that these imports bring in and `used` does not find. What a `pub use` brings in is for others."""
+    """(line, name) of each name that these imports bring in and `used` does not find, or that stood in an import of the same form
+    before. What a `pub use` brings in is for others."""
+    seen = set()
     for m in imports:
         if m.groupdict().get("public"):
             continue
         for name in brought(m):
-            if not used(name):
+            one = (m.group("path"), m.group("names") is None, name)
+            if one in seen or not used(name):
                 yield line_of(text, m.start("path")), name
+            seen.add(one)
 
 
 def unused_antt(text):
