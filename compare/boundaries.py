@@ -9,8 +9,8 @@ from scenario import floats
 SIDES = ["get_total_value", "get_liquidation_value", "get_cash_balance", "turnover"]
 
 
-def start(play, cash, rows, costs=(), log=64):
-    play.new(log, list(costs), rows)
+def start(play, cash, rows, costs=(), log=64, lot=None):
+    play.new(log, list(costs), rows, lot)
     if cash != 0.0:
         play.amount("deposit", cash)
 

@@ -38,6 +38,7 @@ def options():
     parser.add_argument("--seed", type=int, default=1)
     parser.add_argument("--calls", type=int, default=1000000, help="calls to compare with the bent Rust")
     parser.add_argument("--single-calls", type=int, default=None, help="with the unchanged Rust; a tenth if not given")
+    parser.add_argument("--lot-calls", type=int, default=None, help="in scenarios with lots; a tenth if not given")
     parser.add_argument("--damaged", type=int, default=None, help="damaged lines; a twentieth if not given")
     parser.add_argument("--log-rows", type=int, default=65536, help="the rows that the engine's log has")
     parser.add_argument("--liars", action="store_true", help="try the lying engines and nothing else")
@@ -191,10 +192,27 @@ def compare_single(given):
     return part.faults
 
 
+def enough(source, calls):
+    """Scenarios of this source until they have so many calls."""
+    while calls > 0:
+        name, play = next(source)
+        calls -= len(play.lines)
+        yield name, play
+
+
+def compare_lots(given):
+    """The engine beside the model on scenarios with lots; at lot 1 beside the bent Rust too."""
+    calls = given.calls // 10 if given.lot_calls is None else given.lot_calls
+    part = Comparison(given.engine, given.oracle, "lots")
+    part.run(enough(scenarios.lot_scenarios(given.seed + 3), calls))
+    table.summary("the engine with lots", part.tally)
+    return part.faults
+
+
 def compare(given):
     """The faults of all the parts."""
     started = time.time()
-    faults = compare_main(given) + compare_single(given) + compare_damaged(given, damaged_both)
+    faults = compare_main(given) + compare_single(given) + compare_lots(given) + compare_damaged(given, damaged_both)
     meant = differences.check(given)
     print("== meant differences\n%d scenarios, %d not as written" % (differences.count(), len(meant)))
     wrong = ends.check(given.engine)

@@ -19,11 +19,11 @@ GOOD = "3ff0000000000000"
 ORDER, QUOTE, WEIGHT, COST = ("mb", 1, 1.0, None), (1, 1.0, 1.0, 5), (1, 1.0), ("flat", 1.0)
 # A line of each form, so that every text has them all; `clock` has no place in a compared text.
 EVERY_FORM = [
-    "quiet", lines.new(4, [COST], [QUOTE]), lines.lend(4), lines.amount("deposit", 1.0), lines.order("send", ORDER),
-    lines.send_list(4, [ORDER, ORDER]), lines.delete(0), lines.check([QUOTE], [QUOTE]), lines.walk(4, [WEIGHT]),
-    lines.update(4, [QUOTE], [QUOTE], [WEIGHT]), lines.read("get_quote", 1), lines.read("get_quotes", 4),
-    lines.read("turnover"), lines.figures("trade_impact_total", 1.0, 1.0, "buy"),
-    lines.figures("calculate_trade_costs", 1.0, 1.0)]
+    "quiet", lines.new(4, [COST], [QUOTE]), lines.new(4, [COST], [QUOTE], lot=1), lines.lend(4),
+    lines.amount("deposit", 1.0), lines.order("send", ORDER), lines.send_list(4, [ORDER, ORDER]), lines.delete(0),
+    lines.check([QUOTE], [QUOTE]), lines.walk(4, [WEIGHT]), lines.update(4, [QUOTE], [QUOTE], [WEIGHT]),
+    lines.read("get_quote", 1), lines.read("get_quotes", 4), lines.read("turnover"),
+    lines.figures("trade_impact_total", 1.0, 1.0, "buy"), lines.figures("calculate_trade_costs", 1.0, 1.0)]
 # One malformed line for each reason; limits() has those of too many rows and of a line that is too long.
 EVERY_REASON = [line.encode() for line in (
     "buy", "deposit", "clock 1", "deposit 1.0", "delete -1", "lend 18446744073709551616",
@@ -100,14 +100,15 @@ def respaced(rng, line):
 
 
 ODD_PARTS = [part.encode() for part in (
-    "", "-", "x", "0", "-0", "-1", "+1", "--1", "0x1", "1e5", "mb", "xx", "MB", "flat", "pct", GOOD, GOOD.upper(),
-    GOOD[1:], GOOD + "0", "4294967295", "4294967296", "9223372036854775807", "9223372036854775808",
+    "", "-", "x", "0", "-0", "-1", "+1", "--1", "0x1", "1e5", "mb", "xx", "MB", "flat", "pct", "lot", GOOD,
+    GOOD.upper(), GOOD[1:], GOOD + "0", "4294967295", "4294967296", "9223372036854775807", "9223372036854775808",
     "-9223372036854775808", "-9223372036854775809", "18446744073709551615", "18446744073709551616",
     "99999999999999999999", "00000000000000000000", "000000000000000000001", "-00000000000000000001",
     "-000000000000000000001")]
 ODD_WORDS = ODD_PARTS + [word.encode() for word in (
     "/", "1024", "1025", "65536", "65537", "1048576", "1048577", "buy", "sell", "Buy", "nan", "none", "1:%s" % GOOD,
-    "1:%s:%s:5" % (GOOD, GOOD), "mb:1:%s:-" % GOOD, "flat:%s" % GOOD, "per_share:%s" % GOOD)]
+    "1:%s:%s:5" % (GOOD, GOOD), "mb:1:%s:-" % GOOD, "flat:%s" % GOOD, "per_share:%s" % GOOD,
+    "lot:5", "lot:1000001", "lot:", "lot:1:1")]
 
 
 def damaged(rng, line):
@@ -122,6 +123,7 @@ def full_lists(rng):
     for head, row, most, rest in (
             ("send_list 1024", order(ORDER), 1024, ""), ("walk 1024", weight(WEIGHT), 512, ""),
             ("new 4", cost(COST), 32, " /"), ("new 4 /", quote(QUOTE), 512, ""),
+            ("new 4 lot:1", cost(COST), 32, " /"), ("new 4 lot:1 /", quote(QUOTE), 512, ""),
             ("check", quote(QUOTE), 512, " /"), ("check /", quote(QUOTE), 512, ""),
             ("update 1024", quote(QUOTE), 512, " / /"), ("update 1024 /", quote(QUOTE), 512, " /"),
             ("update 1024 / /", weight(WEIGHT), 512, "")):
@@ -142,7 +144,8 @@ def limits(rng):
     rooms = ("send_list %d", "walk %d", "update %d / /", "get_positions %d", "get_quotes %d", "get_holdings %d",
              "get_pending_orders %d", "get_trade_costs %d")
     texts = [line % room for line in rooms for room in (forms.ROOM, forms.ROOM + 1)]
-    return [line.encode() for line in [*texts, *full_lists(rng), *long_lines()]]
+    sizes = ["new 4 lot:%d /" % lot for lot in (2 ** 32 - 1, 2 ** 32)]
+    return [line.encode() for line in [*texts, *sizes, *full_lists(rng), *long_lines()]]
 
 
 def texts(seed):

@@ -75,9 +75,19 @@ def cost(word):
     return binary64(amount) if name in COSTS and colon and b":" not in amount else b"not a cost"
 
 
-# The words after a call's name, a log's length and a room among them, and the lists between the slashes.
+def is_lot(word):
+    """A word that is taken for a lot where one may stand, whatever its number is."""
+    return word.startswith(b"lot:") and word.count(b":") == 1
+
+
+def lot(word):
+    return symbol(word[4:])
+
+
+# The words after a call's name, a log's length, a room and the lot, which may be left out, among them, and the lists
+# between the slashes.
 FORMS = {
-    b"new": (["log"], [(cost, 32), (quote, 512)]),
+    b"new": (["log", lot], [(cost, 32), (quote, 512)]),
     b"lend": (["log"], []),
     b"send_list": (["room"], [(order, 1024)]),
     b"check": ([], [(quote, 512), (quote, 512)]),
@@ -97,8 +107,13 @@ FORMS = {
 }
 
 
+def fixed_words(fixed, words):
+    """What is wanted before the lists, without the lot where the second of a line's words behind its name is none."""
+    return fixed if any(map(is_lot, words[1:2])) else [wanted for wanted in fixed if wanted is not lot]
+
+
 def wrong_fixed(word, wanted, rows):
-    """What a word that always stands in its form is not."""
+    """What a word that stands before the lists of its form is not."""
     if wanted in ("log", "room"):
         return whole(word, rows if wanted == "log" else ROOM)
     return wanted(word)
@@ -126,6 +141,7 @@ def wrong_word(words, rows):
     if words[0] not in FORMS:
         return 0, b"unknown call"
     fixed, lists = FORMS[words[0]]
+    fixed = fixed_words(fixed, words[1:])
     for at, (word, wanted) in enumerate(zip(words[1:], fixed), 1):
         why = wrong_fixed(word, wanted, rows)
         if why is not None:

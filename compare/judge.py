@@ -1,12 +1,13 @@
 """Compares what the engine, the Rust and the plain broker of model.py say to the same lines. The engine's
 answer and state must be the model's on every line. They must be the Rust's, and the model's the Rust's, as far
-as demand 2 of the project goes: until an added number is due or the Rust panics, and again from the next
-`new`. Where that is, the model and the Rust say; nothing that the engine says decides what is compared."""
+as demand 2 of the project goes: until an added number is due, the Rust panics or a `new` has another lot than 1,
+and again from the next `new`. Where that is, the line, the model and the Rust say; nothing that the engine says
+decides what is compared."""
 
 import re
 from collections import Counter
 
-ADDED = frozenset([1, 2, 3, 10, 11, 14, 15, 16])
+ADDED = frozenset([1, 2, 3, 10, 11, 14, 15, 16, 17, 18])
 PANICS = frozenset([5, 6, 13])
 BLOCK = re.compile(rb"\n(?=[0-9])")
 EVENTS_AT = {"send": 1, "insert": 1, "send_list": 2, "update": 4}
@@ -61,6 +62,11 @@ def as_due(text, due):
     return found.group(1) + QUEUED.match(due.text).group(2) + text[found.end():] == due.text
 
 
+def calls_in(counter):
+    """The calls among these words of lines."""
+    return sum(count for verb, count in counter.items() if verb not in SETTINGS)
+
+
 class Tally:
     """What was compared, and where comparisons with the Rust stopped."""
 
@@ -69,13 +75,19 @@ class Tally:
         self.met = Counter()
         self.beyond = Counter()
         self.stops = Counter()
+        self.alone = Counter()
         self.state_lines = 0
         self.model_lines = 0
         self.scenarios = Counter()
         self.facts = Counter()
 
     def calls(self):
-        return sum(count for verb, count in self.compared.items() if verb not in SETTINGS)
+        """How many calls were compared with the Rust."""
+        return calls_in(self.compared)
+
+    def model_calls(self):
+        """How many were compared with the model alone."""
+        return calls_in(self.alone)
 
 
 class Judge:
@@ -99,7 +111,8 @@ class Judge:
             self.tally.state_lines += engine.count(b"\n")
             self.count(self.tally.met, verb, due.drawn)
         else:
-            self.alone(due, engine)
+            self.as_model(due, engine)
+            self.tally.alone[verb] += 1
             self.tally.model_lines += engine.count(b"\n")
             self.count(self.tally.beyond, verb, due.drawn)
 
@@ -125,7 +138,7 @@ class Judge:
         also = "; the model differs from both" if oracle != due.text else ", which the model equals"
         raise Difference("the engine differs from the Rust" + also)
 
-    def alone(self, due, engine):
+    def as_model(self, due, engine):
         """The engine says what is due, where the Rust has no say."""
         if not as_due(engine, due):
             raise Difference("the engine differs from the model (the Rust has no say since: %s)" % self.stopped)
@@ -144,6 +157,8 @@ class Judge:
             why = "added number %d" % (added[0] if added else 16)
         elif hidden:
             why = "added number %d, unreported in a liquidation" % hidden[0]
+        elif due.lot != 1:
+            why = "a lot above 1, which the Rust does not have"
         else:
             why = self.panic_reason(due.drawn, due.silent, panicked)
         if why is not None:

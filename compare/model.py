@@ -1,12 +1,17 @@
-"""A plain broker after document 01, written for the comparison and from that paper alone: what each call
-draws, answers and leaves. The engine is held to it on every line, and it is held to the Rust wherever the
+"""A plain broker after document 01, with the lots of 02, written for the comparison and from these papers alone: what
+each call draws, answers and leaves. The engine is held to it on every line, and it is held to the Rust wherever the
 Rust has an answer; the generator reads it to reach deep states and the rules' boundaries. Orders, quotes,
 costs and trades are the tuples of scenario/words.py."""
+
+from fractions import Fraction
 
 from scenario.floats import NAN, ceil, div, finite, floor
 
 BOOK = 1024
 BUFFER = 1000.0
+MOST_LOT = 1000000
+# Quotients of this size and above are too large for a lot above 1.
+TOO_LARGE = 2.0 ** 52
 BUYS = ("mb", "lb", "sb")
 
 
@@ -90,13 +95,24 @@ def meets(order, bid, ask):
     return price >= bid
 
 
+def lot_shares(quotient, lot):
+    """The greatest multiple of the lot not above a quotient, with its sign; None where the lot is above 1 and the
+    quotient is NaN or too large. Worked out in whole numbers: a multiple of a size below 2^53 is a float."""
+    if lot == 1:
+        return floor(quotient)
+    if not abs(quotient) < TOO_LARGE:
+        return None
+    return quotient if quotient == 0.0 else float(Fraction(quotient) // lot * lot)
+
+
 class Model:
     def __init__(self):
-        self.build(0, [], [])
+        self.build(0, 1, [], [])
 
-    def build(self, log, costs, first):
+    def build(self, log, lot, costs, first):
         """Starts anew; answers the number drawn, or 0."""
         self.log = self.lent = log
+        self.lot = lot
         self.costs = list(costs)
         self.cash = 0.0
         self.latest, self.held, self.pending = {}, {}, {}
@@ -105,16 +121,18 @@ class Model:
         self.taken = self.given = 0
         self.trades, self.turnover, self.bought = [], 0.0, {}
         self.silent = []
-        number = self.build_fault(costs, first)
+        number = self.build_fault(lot, costs, first)
         self.dead = number != 0
         if not self.dead:
             self.latest = {row[0]: row for row in first}
         return number
 
     @staticmethod
-    def build_fault(costs, first):
+    def build_fault(lot, costs, first):
         if len(costs) > 16:
             return 14
+        if not 1 <= lot <= MOST_LOT:
+            return 17
         if any(not finite(amount) for _name, amount in costs):
             return 2
         return table_fault(first)
@@ -358,17 +376,19 @@ class Model:
         return 0 if self.sell_off(amount)[0] else 12
 
     def shares_for(self, difference, row):
+        """The shares that a difference comes to, or None where the lot allows none."""
         if difference < 0.0:
             budget, price = impact(self.costs, -difference, row[1], False)
-            return -floor(div(budget, price))
+            shares = lot_shares(div(budget, price), self.lot)
+            return None if shares is None else -shares
         budget, price = impact(self.costs, difference, row[2], True)
-        return floor(div(budget, price))
+        return lot_shares(div(budget, price), self.lot)
 
     def plan(self, weights):
-        """The walk's orders, or None where there is no value."""
+        """The number drawn, and the walk's orders: 13 where there is no value, 18 where the lot allows a row none."""
         total = self.liquidation_value()
         if total == 0.0:
-            return None
+            return 13, []
         sells, buys = [], []
         for symbol, weight in weights:
             value = self.value(symbol)
@@ -378,11 +398,13 @@ class Model:
             if symbol not in self.latest:
                 continue
             shares = self.shares_for(difference, self.latest[symbol])
+            if shares is None:
+                return 18, []
             if shares > 0.0:
                 buys.append(("mb", symbol, shares, None))
             elif shares != 0.0:
                 sells.append(("ms", symbol, abs(shares), None))
-        return sells + buys
+        return 0, sells + buys
 
     def walk(self, room, weights):
         """The refusal's number, and the orders."""
@@ -391,8 +413,7 @@ class Model:
         if room < len(weights):
             return 15, []
         number = weights_fault(weights)
-        orders = None if number else self.plan(weights)
-        return (number or 13, []) if orders is None else (0, orders)
+        return (number, []) if number else self.plan(weights)
 
     def update(self, room, tradable, fetched, weights):
         """The refusal's number, and the events: each order's number with the order."""
@@ -404,7 +425,5 @@ class Model:
         if number:
             return number, []
         self.unrefused_check(tradable, fetched)
-        orders = self.plan(weights)
-        if orders is None:
-            return 13, []
-        return 0, [(self.send(order), order) for order in orders]
+        number, orders = self.plan(weights)
+        return number, [(self.send(order), order) for order in orders]

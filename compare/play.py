@@ -11,12 +11,14 @@ from scenario import floats, lines, words
 class Due(NamedTuple):
     """What is due for a line: the numbers that its answer draws, those that a liquidation's orders draw
     unreported, whether the state after it cannot be read from the lent log (16), how large the free count
-    of sells may be where it answers one, and the text of answer and state, in bytes."""
+    of sells may be where it answers one, the text of answer and state, in bytes, and the lot of the broker
+    that a `new` asks for."""
     drawn: tuple
     silent: tuple
     unlent: bool
     most: Optional[int]
     text: bytes
+    lot: int = 1
 
 
 class Play:
@@ -35,13 +37,15 @@ class Play:
         if shows:
             text += "\n" + self.view.state(model)
         drawn = tuple([number for number in numbers if number])
+        unlent, lot = shows and model.broken(lends=True), model.lot if verb == "new" else 1
         self.lines.append(line)
-        self.due.append(Due(drawn, tuple(model.silent), shows and model.broken(lends=True), most, text.encode()))
+        self.due.append(Due(drawn, tuple(model.silent), unlent, most, text.encode(), lot))
         model.silent = []
 
-    def new(self, log, costs, first):
-        number = self.model.build(log, costs, first)
-        self.write(lines.new(log, costs, first), model_text.worded(number, "built"), [number])
+    def new(self, log, costs, first, lot=None):
+        """A builder; without a lot the line has none, and it is 1."""
+        number = self.model.build(log, 1 if lot is None else lot, costs, first)
+        self.write(lines.new(log, costs, first, lot), model_text.worded(number, "built"), [number])
 
     def lend(self, log):
         self.model.lent = log

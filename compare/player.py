@@ -21,6 +21,7 @@ class Mix:
         self.symbols = symbols
         self.hidden = given.get("hidden", [])
         self.log = given.get("log", 4096)
+        self.lot = given.get("lot")
         self.wild = given.get("wild", 0.0)
         self.move = given.get("move", 0.05)
         self.level = given.get("level", (1.0, 3.0))
@@ -46,7 +47,7 @@ class Player:
         """A scenario of this many calls."""
         rng, mix = self.rng, self.mix
         first = [s for s in mix.symbols if rng.random() < 0.95]
-        self.play.new(mix.log, mix.costs, self.market.table(first))
+        self.play.new(mix.log, mix.costs, self.market.table(first), mix.lot)
         if mix.quiet:
             self.play.word("quiet")
         if rng.random() < 0.85:

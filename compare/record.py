@@ -1,9 +1,9 @@
 """Records the answers that the gate replays: runs the engine and the Rust on crates/rehearse/stdin and
 writes crates/rehearse/stdout, and the lists at the end of docs/RECORDED.md. A line's answer is the Rust's
-until an added number is due or the Rust panics; from there to the next `new` it rests on document 01 alone,
-by model.py, which the engine must equal on every line. Which lines are malformed, and why, is said by forms.py.
-Exit status 1 where the engine differs from one of them, where a reason has no malformed line, or, with --check,
-where the files are not what would be written."""
+until an added number is due, the Rust panics or a lot is not 1; from there to the next `new` it rests on document
+01 alone, by model.py, which the engine must equal on every line. Which lines are malformed, and why, is said by
+forms.py. Exit status 1 where the engine differs from one of them, where a reason has no malformed line, or, with
+--check, where the files are not what would be written."""
 
 import argparse
 import os

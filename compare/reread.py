@@ -4,7 +4,7 @@ judged like a generated one."""
 from play import Play
 from player import LIST_READS, SYMBOL_READS
 from scenario.floats import number
-from scenario.words import read_cost, read_order, read_quote, read_weight
+from scenario.words import is_lot, read_cost, read_lot, read_order, read_quote, read_weight
 
 
 def lists(words, *readers):
@@ -18,9 +18,15 @@ def lists(words, *readers):
     return [[read(word) for word in part] for read, part in zip(readers, parts)]
 
 
+def new(play, log, words):
+    """A builder, whose lot may be left out."""
+    lot = read_lot(words[0]) if is_lot(words[0]) else None
+    play.new(log, *lists(words[lot is not None:], read_cost, read_quote), lot)
+
+
 def call(play, verb, words):
     if verb == "new":
-        play.new(int(words[0]), *lists(words[1:], read_cost, read_quote))
+        new(play, int(words[0]), words[1:])
     elif verb == "lend":
         play.lend(int(words[0]))
     elif verb in ("deposit", "withdraw", "liquidate"):

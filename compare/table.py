@@ -41,8 +41,8 @@ def summary(name, tally):
     numbers_table("Compared calls, by kind and by number drawn:", tally.met, tally.compared)
     stops_table(tally.stops)
     if tally.beyond:
-        numbers_table("From the stops on, compared with document 01's model alone (%d lines of state):" %
-                      tally.model_lines, tally.beyond)
+        numbers_table("From the stops on, compared with document 01's model alone (%d calls, %d lines of state):" %
+                      (tally.model_calls(), tally.model_lines), tally.beyond, tally.alone)
 
 
 def damaged(met, reasons):

@@ -9,7 +9,7 @@ sys.path.insert(0, os.path.join(os.path.dirname(os.path.dirname(os.path.abspath(
 from answers import money
 from scenario.floats import number
 from scenario.meanings import MEANINGS
-from scenario.words import read_order, read_quote, read_weight
+from scenario.words import is_lot, read_lot, read_order, read_quote, read_weight
 
 KINDS = {"m": "market", "l": "limit", "s": "stop"}
 
@@ -33,10 +33,15 @@ def mix(rows):
     return ", ".join(f"{weight:g} of symbol {symbol}" for symbol, weight in map(read_weight, rows)) or "no weights"
 
 
+def lot(rest):
+    """The lot behind a log's length as words, where there is one."""
+    return f" that trades in lots of {read_lot(rest[1]):,}" if is_lot(rest[1]) else ""
+
+
 def asked(name, rest):
     """A call in plain English."""
     if name == "new":
-        return f"a new broker; first quotes: {table(rest[rest.index('/') + 1:])}"
+        return f"a new broker{lot(rest)}; first quotes: {table(rest[rest.index('/') + 1:])}"
     if name == "check":
         return f"a check on {table(rest[:rest.index('/')])}"
     if name == "update":

@@ -58,7 +58,8 @@ def scenario(plan, schedule, texts, symbols, weights):
     for name, symbol in symbols.items():
         yield f"# name {symbol} {name}"
     yield "quiet"
-    yield lines.joined("new", str(log_rows(schedule, len(mix))), [words.cost(row) for row in plan.costs], "/", texts[0])
+    lot = [words.lot(plan.lot)] if plan.lot != 1 else []
+    yield lines.joined("new", str(log_rows(schedule, len(mix))), lot, [words.cost(row) for row in plan.costs], "/", texts[0])
     for day, text in zip(schedule, texts):
         yield f"# {day.date}"
         yield from day_lines(day, text, mix)

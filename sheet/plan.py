@@ -15,10 +15,11 @@ PERIODS = {
 RHYTHMS = tuple(PERIODS)
 COSTS = ("per_share", "pct_of_value", "flat")
 MOST_COSTS = 16
+MOST_LOT = 1000000
 
 
 class Plan:
-    """What is paid in and out and when, when the account is rebalanced, and the costs. A regular amount is (amount, rhythm)."""
+    """What is paid in and out and when, when the account is rebalanced, costs and lot. A regular amount is (amount, rhythm)."""
 
     def __init__(self):
         self.title, self.currency = "Savings plan", "euros"
@@ -26,6 +27,7 @@ class Plan:
         self.deposit = self.withdraw = (0.0, "never")
         self.rebalance = "monthly"
         self.costs = []
+        self.lot = 1
 
 
 def positive(word):
@@ -54,6 +56,12 @@ def rhythm(word):
     return word if word in RHYTHMS else None
 
 
+def lot(word):
+    """A whole number that the engine takes as a lot, or None."""
+    small = word.isascii() and word.isdecimal() and len(word) <= len(str(MOST_LOT))
+    return int(word) if small and 1 <= int(word) <= MOST_LOT else None
+
+
 def words(word):
     return word if word and word.isprintable() else None
 
@@ -67,6 +75,7 @@ NAMES = {
     "withdraw": (regular, f"an amount above zero and a rhythm ({', '.join(RHYTHMS)}), as 100 quarterly"),
     "rebalance": (rhythm, f"one of {', '.join(RHYTHMS)}"),
     "cost": (cost, f"one of {', '.join(COSTS)} and an amount, as flat 1"),
+    "lot": (lot, f"a whole number from 1 to {MOST_LOT:,}, as 10"),
 }
 
 

@@ -8,6 +8,7 @@ from amounts import money, price, quantity
 SHOWN_REFUSALS = 12
 COSTS_NOTE = ("Costs act on the size of orders and on the values that a sale would leave, as in the engine's rules;\n"
               "they are not taken from cash, so the curve is the account's before costs are paid.")
+LOT_NOTE = "Orders for the weights are whole lots of {:,} shares; sales that make up for a shortfall of cash are not."
 FAILED_NOTE = "The broker is Failed: a shortfall could not be raised, and no order is taken any more."
 
 
@@ -94,6 +95,7 @@ def sheet(plan, rehearsal, found, notes):
              list(months(evenings)), list(account(rehearsal)),
              [f"{name:<30}{text}" for name, text in fact_lines(found, plan.currency)], list(refusals(rehearsal.refusals)),
              [FAILED_NOTE] if rehearsal.failed else [],
+             [LOT_NOTE.format(plan.lot)] if plan.lot != 1 else [],
              [COSTS_NOTE]]
     return "\n\n".join("\n".join(part) for part in parts if part) + "\n"
 

@@ -90,6 +90,7 @@ class Bad(places.Folder):
         self.refused("'often' is no value of rebalance", plan=PLAN + "rebalance = often\n")
         self.refused("pays nothing in", plan="rebalance = monthly\n")
         self.refused("has 17 costs", plan=PLAN + "cost = flat 1\n" * 17)
+        self.refused("p.txt, line 2", "'0' is no value of lot", "from 1 to 1,000,000", plan=PLAN + "lot = 0\n")
 
     def test_option_that_is_none(self):
         self.assertIn("--deposit: 'much' is no value of it", str(self.fault([*self.words(), "--deposit", "much"])))

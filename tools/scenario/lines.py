@@ -20,8 +20,10 @@ def weights(rows):
     return [words.weight(row) for row in rows]
 
 
-def new(log, costs, first):
-    return joined("new", str(log), [words.cost(row) for row in costs], "/", quotes(first))
+def new(log, costs, first, lot=None):
+    """A builder; without a lot its word is left out."""
+    size = [] if lot is None else words.lot(lot)
+    return joined("new", str(log), size, [words.cost(row) for row in costs], "/", quotes(first))
 
 
 def lend(log):

@@ -1,6 +1,6 @@
 """What document 01's numbers mean, in words."""
 
-# Numbers that a sender, a cash mover, a supplier of tables or a lender draws.
+# Numbers that a sender, a cash mover, a supplier of tables or weights, a builder or a lender draws.
 MEANINGS = {
     1: "a symbol is above 255",
     2: "a value is not finite, or a bid or ask is not above zero",
@@ -18,4 +18,6 @@ MEANINGS = {
     14: "there are more than 16 costs",
     15: "a lent list is too short",
     16: "the broker and the log that was lent do not belong together, or no broker was built",
+    17: "the lot is outside 1 to 1,000,000",
+    18: "the shares of a weight, before rounding, are NaN or too many for the lot",
 }

@@ -26,6 +26,11 @@ def cost(row):
     return "%s:%s" % (name, text(amount))
 
 
+def lot(size):
+    """The lot of a new broker; the word may be left out for 1."""
+    return "lot:%d" % size
+
+
 def trade(row):
     side, symbol, quantity, value, date = row
     return "%s:%d:%s:%s:%d" % (side, symbol, text(quantity), text(value), date)
@@ -49,3 +54,11 @@ def read_weight(word):
 def read_cost(word):
     name, amount = word.split(":")
     return name, number(amount)
+
+
+def is_lot(word):
+    return word.startswith("lot:")
+
+
+def read_lot(word):
+    return int(word.partition(":")[2])

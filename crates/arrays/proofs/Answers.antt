@@ -44,9 +44,9 @@ module _ {A : Type 0} (room r : ℕ) (e after : List A) (is-r : r ≡ min room 1
 
 -- ---- the calls
 
-pub build-answers : (c : TradeCosts) (x : Lists) (log : List Trade) (t : List Quote) (k : ℕ) (r : Built) → t ≡ x .tradable → k ≡ min (x .first) 512 →
-    r ≡ buildFor c (take k t) log → r ≡ buildFor c (tradableIn x) log
-build-answers c x log t k r is-t is-k is-r = rw (is-t, is-k) at is-r
+pub build-answers : (c : TradeCosts) (lot : ℕ) (x : Lists) (log : List Trade) (t : List Quote) (k : ℕ) (r : Built) → t ≡ x .tradable → k ≡ min (x .first) 512 →
+    r ≡ buildFor c lot (take k t) log → r ≡ buildFor c lot (tradableIn x) log
+build-answers c lot x log t k r is-t is-k is-r = rw (is-t, is-k) at is-r
 
 pub check-answers : (b : UistBroker) (x : Lists) (log after : List Trade) (t f : List Quote) (k l n : ℕ) (y : CheckAnswer) (z : CheckedList) →
     t ≡ x .tradable → k ≡ min (x .first) 512 → f ≡ x .fetched → l ≡ min (x .second) 512 →

@@ -3,18 +3,18 @@ use Rattle.broker.specs.Lent.{buildFor}
 use Rattle.lent.specs.Answers.{AnswersCheck, AnswersSend, AnswersWalk, AnswersUpdate}
 use Rattle.lent.proofs.Rows.{trade}
 use Rattle.lent.proofs.UistRows.{trade-costs, built, uist-broker}
-use Rattle.slices.proofs.Derivation.{Contract, false, _≡_, [], _∷_, R, pV, rV, pShrS, pMutS}
+use Rattle.slices.proofs.Derivation.{Contract, false, _≡_, [], _∷_, R, pV, rV, pShrS, pMutS, pNum, w32}
 use Rattle.arrays.specs.Arrays.{tradableIn, fetchedIn, weightsIn, ordersIn, lentOf, pastLent, blankEvents, blankOrders}
 use Rattle.arrays.proofs.Rows.{lists, orders, checked-list, updated-list, sent-list, walked-list}
 
 abbrev pub build-on : Contract
 build-on = record {
   n = 1;
-  ps = pV trade-costs ∷ pV lists ∷ pShrS (R trade) 0 tt ∷ [];
+  ps = pV trade-costs ∷ pNum w32 ∷ pV lists ∷ pShrS (R trade) 0 tt ∷ [];
   r = rV built;
   requires = false;
   Pre = λ κs a. Unit {0};
-  Post = λ κs a z e. z ≡ buildFor (a .0) (tradableIn (a .1 .0)) (a .1 .1 .0 .now);
+  Post = λ κs a z e. z ≡ buildFor (a .0) (a .1 .0) (tradableIn (a .1 .1 .0)) (a .1 .1 .1 .0 .now);
 }
 
 abbrev pub check-on : Contract

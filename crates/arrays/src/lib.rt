@@ -185,12 +185,12 @@ pub fn event_rows(x: Lists) -> usize
 }
 
 // A fresh broker for the lent log.
-pub fn build_on(costs: TradeCosts, x: Lists, log: &[Trade]) -> Built
-    ensures { λ r. ⌜ r ≡ buildFor costs (tradableIn x) (now (log .entry)) ⌝ }
+pub fn build_on(costs: TradeCosts, lot: u32, x: Lists, log: &[Trade]) -> Built
+    ensures { λ r. ⌜ r ≡ buildFor costs lot (tradableIn x) (now (log .entry)) ⌝ }
 {
     let t = tradable_in(x);
     let k = tradable_rows(x);
-    uist::build(costs, &t[..k], log)
+    uist::build(costs, lot, &t[..k], log)
 }
 
 // A check; its time is left free.

@@ -30,6 +30,9 @@ use Rattle.exchange.specs.declared.state.Booked.{Booked}
 use Rattle.exchange.specs.declared.state.Counts.{Counts}
 use Rattle.exchange.specs.declared.state.UistV1.{UistV1}
 use Rattle.exchange.proofs.Counting.{Sound, room-facts, Free}
+use Rattle.floats.specs.Lots.{isLot}
+use Rattle.sender.proofs.Sounding.{counts-sound, lot-sound, both-sound}
+use Rattle.broker.specs.Lender.{broken}
 use Rattle.rules.specs.Money.{unlessZero}
 use Rattle.rules.specs.Sends.{sendTestsAt}
 use Rattle.portfolio.specs.State.{moneyOf}
@@ -124,11 +127,20 @@ one-sound c s z =
     let r = room-facts c s z in
     record { together = omega (arith, r .places); bounded = omega (arith, r .rows); numbers = omega (arith, s .numbers); logs = omega (arith, s .logs) }
 
-pub sent-sound : (b : UistBroker) (o : Order) → Sound (b .exchange .counts) → Sound (sentOne b o .exchange .counts)
-sent-sound = sent-keeps Sound one-sound
+lot-by : (b : UistBroker) (o : Order) (n : ℕ) → unlessDrawn n (takenBy b o) b .portfolio .lot ≡ b .portfolio .lot
+lot-by b o zero = refl
+lot-by b o (suc n) = refl
 
-pub sent-all-sound : (b : UistBroker) (l : List Order) → Sound (b .exchange .counts) → Sound (sentAll b l .exchange .counts)
-sent-all-sound = sent-all-keeps Sound one-sound
+-- a send keeps the lot
+sent-lot : (b : UistBroker) (o : Order) → sentOne b o .portfolio .lot ≡ b .portfolio .lot
+unfolding sentOne
+sent-lot b o = lot-by b o (eventFor b o .fault)
+
+-- a broker that draws no 16 draws none after a send
+pub sent-unbroken : (b : UistBroker) (o : Order) → broken b ≡ false → broken (sentOne b o) ≡ false
+sent-unbroken b o h =
+    both-sound (sentOne b o .portfolio .lot) (sent-keeps Sound one-sound b o (counts-sound (b .exchange .counts) (b .portfolio .lot) h))
+    (ap isLot (sent-lot b o) ∙ lot-sound (b .exchange .counts) (b .portfolio .lot) h)
 
 pub one-fits : (c : Counts) → SendsFit c → drawn (roomOf c) ≡ 0 → Free c
 one-fits c s e =
@@ -166,8 +178,8 @@ sent-taken b (o ∷ l) = omega (arith, sent-taken (sentOne b o) l, one-taken b o
 -- ---- the loop that sends a list
 
 -- the broker that the loop's variables make
-abbrev pub brokerOf : Table → TradeCosts → UistV1 → Funds → UistBroker
-brokerOf latest costs e f = record { exchange = e; portfolio = record { latest = latest; funds = f; costs = costs } }
+abbrev pub brokerOf : Table → TradeCosts → ℕ → UistV1 → Funds → UistBroker
+brokerOf latest costs lot e f = record { exchange = e; portfolio = record { latest = latest; funds = f; costs = costs; lot = lot } }
 
 -- pending moved to p at an order's symbol
 abbrev pub expectingAs : Funds → Order → Float → Funds
@@ -194,25 +206,25 @@ module _ (b : UistBroker) (o : Order) (e : OrderEvent)
 
   pub takes-one : (x : UistV1) (f : Funds) (p : Float) → e .fault ≡ 0 → x ≡ joined (b .exchange) o →
       p ≡ pendingAfter o (getD (b .portfolio .funds .awaited) (o .symbol % 256) false) (getD (b .portfolio .funds .pending) (o .symbol % 256) nan) →
-      f ≡ expectingAs (b .portfolio .funds) o p → brokerOf (b .portfolio .latest) (b .portfolio .costs) x f ≡ sentOne b o
+      f ≡ expectingAs (b .portfolio .funds) o p → brokerOf (b .portfolio .latest) (b .portfolio .costs) (b .portfolio .lot) x f ≡ sentOne b o
   takes-one x f p z j m g =
-      ap (λ (y : UistV1). brokerOf (b .portfolio .latest) (b .portfolio .costs) y f) j
-      ∙ ap (λ (y : Funds). brokerOf (b .portfolio .latest) (b .portfolio .costs) (joined (b .exchange) o) y) (g ∙ ap (expectingAs (b .portfolio .funds) o) m)
+      ap (λ (y : UistV1). brokerOf (b .portfolio .latest) (b .portfolio .costs) (b .portfolio .lot) y f) j
+      ∙ ap (λ (y : Funds). brokerOf (b .portfolio .latest) (b .portfolio .costs) (b .portfolio .lot) (joined (b .exchange) o) y) (g ∙ ap (expectingAs (b .portfolio .funds) o) m)
       ∙ sent-taken-by b o (number-for ∙ z)
 
   pub passes-one : (x : UistV1) (f : Funds) → (e .fault ≡ 0 → ⊥) → x ≡ b .exchange → f ≡ b .portfolio .funds →
-      brokerOf (b .portfolio .latest) (b .portfolio .costs) x f ≡ sentOne b o
+      brokerOf (b .portfolio .latest) (b .portfolio .costs) (b .portfolio .lot) x f ≡ sentOne b o
   passes-one x f h j g =
-      ap (λ (y : UistV1). brokerOf (b .portfolio .latest) (b .portfolio .costs) y f) j
-      ∙ ap (λ (y : Funds). brokerOf (b .portfolio .latest) (b .portfolio .costs) (b .exchange) y) g
+      ap (λ (y : UistV1). brokerOf (b .portfolio .latest) (b .portfolio .costs) (b .portfolio .lot) y f) j
+      ∙ ap (λ (y : Funds). brokerOf (b .portfolio .latest) (b .portfolio .costs) (b .portfolio .lot) (b .exchange) y) g
       ∙ sent-refused b o (λ z. h (sym number-for ∙ z))
 
 -- the broker that the arrays and counts of a loop make
 abbrev pub fundsWith : Funds → List Float → List Bool → Funds
 fundsWith f pending awaited = record { holding = f .holding; pending = pending; awaited = awaited; cash = f .cash; failed = f .failed }
 
-abbrev pub brokerWith : Table → TradeCosts → Funds → List Booked → Counts → List Float → List Bool → UistBroker
-brokerWith latest costs f book c pending awaited = brokerOf latest costs (record { book = book; counts = c }) (fundsWith f pending awaited)
+abbrev pub brokerWith : Table → TradeCosts → ℕ → Funds → List Booked → Counts → List Float → List Bool → UistBroker
+brokerWith latest costs lot f book c pending awaited = brokerOf latest costs lot (record { book = book; counts = c }) (fundsWith f pending awaited)
 
 same-exchange : (x y : UistV1) → x .book ≡ y .book → x .counts ≡ y .counts → x ≡ y
 same-exchange x y p q =
@@ -224,7 +236,7 @@ same-pending f p q a b x y = ap (λ (l : List Float). fundsWith f l a) x ∙ ap 
 module _ (b : UistBroker) (o : Order) (e : OrderEvent)
     (a : e ≡ eventAt o (b .portfolio .funds .failed) (b .portfolio .funds .cash) (atSymbol (b .portfolio) (o .symbol % 256)) (b .exchange .counts)) where
   abbrev with : List Booked → Counts → List Float → List Bool → UistBroker
-  with = brokerWith (b .portfolio .latest) (b .portfolio .costs) (b .portfolio .funds)
+  with = brokerWith (b .portfolio .latest) (b .portfolio .costs) (b .portfolio .lot) (b .portfolio .funds)
 
   pub takes-parts : (book : List Booked) (c : Counts) (pending : List Float) (awaited : List Bool) (p : Float) → e .fault ≡ 0 →
       book ≡ joined (b .exchange) o .book → c ≡ joined (b .exchange) o .counts →

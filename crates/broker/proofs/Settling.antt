@@ -21,6 +21,7 @@ use Rattle.exchange.proofs.Counting.{or-right, sound-facts}
 use Rattle.exchange.proofs.Executing.{few-executed}
 use Rattle.exchange.proofs.Booking.{length-numbers}
 use Rattle.orders.proofs.Sides.{sides}
+use Rattle.sender.proofs.Sounding.{counts-hold}
 use Rattle.broker.specs.Lender.{broken, brokenFor, brokerLogFault}
 use Rattle.broker.specs.Send.{SendsFit}
 use Rattle.broker.specs.Check.{checkFault}
@@ -29,11 +30,12 @@ use Rattle.broker.specs.declared.state.UistBroker.{UistBroker}
 -- ---- the check
 
 -- a check that draws no number finds the counts sound and the tradable rows good
-pub number-none : (b : UistBroker) (n t f : ℕ) → checkFault b n t f ≡ 0 → (broken b ≡ false) × (t ≡ 0)
+pub number-none : (b : UistBroker) (n t f : ℕ) → checkFault b n t f ≡ 0 → (brokenOf (b .exchange .counts) ≡ false) × (t ≡ 0)
 unfolding checkFault
 number-none b n t f e =
     let own = first-none (brokerLogFault b n) (firstDrawn t f) e in
-    (or-right (logDiffers (b .exchange .counts) n) (broken b) (none-drawn (brokenFor b n) 15 [] (own .0) .0), first-none t f (own .1) .0)
+    let sound = or-right (logDiffers (b .exchange .counts) n) (broken b) (none-drawn (brokenFor b n) 15 [] (own .0) .0) in
+    (counts-hold (b .exchange .counts) (b .portfolio .lot) sound, first-none t f (own .1) .0)
 
 -- the tick of a check that draws no number acts
 pub tick-acts : (b : UistBroker) (t : Table) (n f : ℕ) → checkFault b n (t .fault) f ≡ 0 → tickOf (b .exchange) t ≡ tickDone (b .exchange) (rowAt t)

@@ -62,6 +62,7 @@ bookedBy b t f =
         latest = mergeOf (b .portfolio .latest) f;
         funds = foldl settleOne (b .portfolio .funds) (tradesOf (rowAt t) (restingOf (b .exchange)));
         costs = b .portfolio .costs;
+        lot = b .portfolio .lot;
       };
     }
 

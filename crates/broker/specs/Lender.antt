@@ -6,12 +6,13 @@ use lib.Dec.{ltb}
 use lib.ListN.{length}
 use Rattle.market.specs.Faults.{Test, _draws_, drawn}
 use Rattle.market.specs.declared.trade.Trade.{Trade}
-use Rattle.exchange.specs.State.{brokenOf, logDiffers}
+use Rattle.exchange.specs.State.{logDiffers}
+use Rattle.sender.specs.Sound.{brokenWith}
 use Rattle.broker.specs.declared.state.UistBroker.{UistBroker}
 
--- 16: the counts do not hold together
+-- 16: the counts do not hold together, or the lot is outside its range
 abbrev pub broken : UistBroker → Bool
-broken b = brokenOf (b .exchange .counts)
+broken b = brokenWith (b .exchange .counts) (b .portfolio .lot)
 
 -- 16 of a call to which the log is lent: also where its length is not that of the start
 abbrev pub brokenFor : UistBroker → ℕ → Bool

@@ -28,8 +28,8 @@ use Rattle.broker.specs.declared.state.UistBroker.{UistBroker}
 use Rattle.broker.specs.declared.build.Built.{Built}
 use Rattle.market.specs.declared.order.OrderEvent.{OrderEvent}
 
-abbrev pub buildFor : TradeCosts → List Quote → List Trade → Built
-buildFor costs first log = buildOf costs (tableOf first) (length log)
+abbrev pub buildFor : TradeCosts → ℕ → List Quote → List Trade → Built
+buildFor costs lot first log = buildOf costs lot (tableOf first) (length log)
 
 -- ---- a list of orders: 16, 15, then each order's own event
 
@@ -71,7 +71,7 @@ checkLog b t f log = unlessDrawn (checkFor b t f log) (logWith b t log) log
 unfoldable pub heldAfter : UistBroker → List Quote → List Quote → List Trade → ℕ
 heldAfter b t f log = unlessDrawn (checkFor b t f log) (heldCount (moneyOf (bookedBy b (tableOf t) (tableOf f) .portfolio))) 0
 
--- ---- an update: 16, 15, then the rows: tradable, fetched, weights; then 13
+-- ---- an update: 16, 15, then the rows: tradable, fetched, weights; then 13, 18
 
 unfoldable pub updateFor : UistBroker → List Quote → List Quote → List Weight → List OrderEvent → List Trade → ℕ
 updateFor b t f w e log = drawn (logTest b log ∷ shortTest (length w) (length e) ∷ ((tableTests 0 t ++ tableTests 0 f) ++ weightRows 0 w))

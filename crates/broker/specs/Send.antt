@@ -48,17 +48,18 @@ withPending p pending awaited =
       latest = p .latest;
       funds = record { holding = p .funds .holding; pending = pending; awaited = awaited; cash = p .funds .cash; failed = p .funds .failed };
       costs = p .costs;
+      lot = p .lot;
     }
 
 abbrev pub withFunds : UistBroker → Funds → UistBroker
-withFunds b f = record { exchange = b .exchange; portfolio = record { latest = b .portfolio .latest; funds = f; costs = b .portfolio .costs } }
+withFunds b f = record { exchange = b .exchange; portfolio = record { latest = b .portfolio .latest; funds = f; costs = b .portfolio .costs; lot = b .portfolio .lot } }
 
 -- an order that is taken waits on the exchange, and pending moves
 abbrev pub takenBy : UistBroker → Order → UistBroker
 takenBy b o =
     record {
       exchange = joined (b .exchange) o;
-      portfolio = record { latest = b .portfolio .latest; funds = expecting (b .portfolio .funds) o; costs = b .portfolio .costs };
+      portfolio = record { latest = b .portfolio .latest; funds = expecting (b .portfolio .funds) o; costs = b .portfolio .costs; lot = b .portfolio .lot };
     }
 
 unfoldable pub sentOne : UistBroker → Order → UistBroker
@@ -90,13 +91,17 @@ sendOf b o =
     (record { broker = b; event = eventOf o 16 })
     (record { broker = sentOne b o; event = eventFor b o })
 
--- direct insertions and deletions do not touch pending
+-- direct insertions and deletions do not touch pending; 16, then what the exchange makes of them
 unfoldable pub insertOf : UistBroker → Order → Sent
 insertOf b o =
     let r = Exchange.insertOf (b .exchange) o in
-    record { broker = record { exchange = r .exchange; portfolio = b .portfolio }; event = eventOf o (r .fault) }
+    cond (broken b)
+    (record { broker = b; event = eventOf o 16 })
+    (record { broker = record { exchange = r .exchange; portfolio = b .portfolio }; event = eventOf o (r .fault) })
 
 unfoldable pub deleteOf : UistBroker → ℕ → BrokerDeleted
 deleteOf b n =
     let r = Deletion.deleteOf (b .exchange) n in
-    record { broker = record { exchange = r .exchange; portfolio = b .portfolio }; fault = r .fault }
+    cond (broken b)
+    (record { broker = b; fault = 16 })
+    (record { broker = record { exchange = r .exchange; portfolio = b .portfolio }; fault = r .fault })

@@ -3,12 +3,13 @@ ghost use mathlib.Core.Path.{_≡_};
 ghost use Rattle.market.specs.Faults.{drawn};
 ghost use Rattle.costs.specs.Kept.{costsOf};
 ghost use Rattle.costs.specs.Costs.{isFinite};
-ghost use Rattle.broker.specs.Build.{costTests, noBroker, buildOf};
+ghost use Rattle.broker.specs.Build.{builderTests, noBroker, buildOf};
 use crate::state::UistBroker;
 use costs::BrokerCost;
 use costs::TradeCosts;
 use exchange::state::Counts;
 use exchange::state::UistV1;
+use floats::lot;
 use market::table::ReadTable;
 use market::table::Table;
 use portfolio::state::Funds;
@@ -31,12 +32,15 @@ fn is_finite(cost: BrokerCost) -> bool
     }
 }
 
-// 14, then 2 for a cost, or 0.
-fn cost_fault(costs: TradeCosts) -> u32
-    ensures { λ r. ⌜ r ≡ drawn (costTests (costs .count) (costsOf costs)) ⌝ }
+// 14, 17 for a lot outside its range, then 2 for a cost, or 0.
+fn builder_fault(costs: TradeCosts, lot: u32) -> u32
+    ensures { λ r. ⌜ r ≡ drawn (builderTests (costs .count) lot (costsOf costs)) ⌝ }
 {
     if costs.count > 16 {
         return 14;
+    }
+    if !lot::is_lot(lot) {
+        return 17;
     }
     let n = costs.count;
     let mut i: usize = 0;
@@ -76,6 +80,7 @@ fn no_broker() -> UistBroker
         latest: latest,
         funds: funds,
         costs: costs,
+        lot: 0,
     };
     UistBroker {
         exchange: exchange,
@@ -85,11 +90,11 @@ fn no_broker() -> UistBroker
 
 impl UistBroker {
     // A fresh broker for a log of `room` rows; the table's rows are the first latest quotes.
-    pub fn build(costs: TradeCosts, first: ReadTable, room: u64) -> Built
-        ensures { λ r. ⌜ r ≡ buildOf costs (first .table) room ⌝ }
+    pub fn build(costs: TradeCosts, lot: u32, first: ReadTable, room: u64) -> Built
+        ensures { λ r. ⌜ r ≡ buildOf costs lot (first .table) room ⌝ }
     {
         let latest = first.table();
-        let fault = cost_fault(costs);
+        let fault = builder_fault(costs, lot);
         if fault != 0 {
             return Built {
                 broker: no_broker(),
@@ -108,6 +113,7 @@ impl UistBroker {
             latest: latest,
             funds: funds,
             costs: costs,
+            lot: lot,
         };
         Built {
             broker: UistBroker {

@@ -90,6 +90,7 @@ impl UistBroker {
             latest: latest,
             funds: funds,
             costs: costs,
+            lot: portfolio.lot,
         };
         let b = UistBroker {
             exchange: ticked,

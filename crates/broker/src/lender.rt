@@ -1,11 +1,12 @@
-// The lender's numbers: 16 for a broker whose counts do not hold together or a log of another length
-// than at the start, 15 for a list that is too short.
+// The lender's numbers: 16 for a broker whose counts do not hold together, a lot outside its range or a
+// log of another length than at the start, 15 for a list that is too short.
 ghost use mathlib.Core.Path.{_≡_};
 ghost use mathlib.Core.List.{[], _∷_};
 ghost use Rattle.market.specs.Faults.{drawn};
 ghost use Rattle.broker.specs.Lender.{brokerFault, brokerLogFault, shortTest, lenderTests};
 use crate::state::UistBroker;
 use market::fault;
+use sender::sound;
 
 // 15 where a list of `room` entries is lent for `rows` rows, or 0.
 pub fn list_fault(rows: usize, room: usize) -> u32
@@ -20,8 +21,9 @@ impl UistBroker {
         ensures { λ r. ⌜ r ≡ brokerFault self ⌝ }
     {
         let exchange = self.exchange;
+        let portfolio = self.portfolio;
         let counts = exchange.counts;
-        counts.fault()
+        sound::fault(counts, portfolio.lot)
     }
 
     // 16 of a call to which a log of this length is lent, or 0.

@@ -1,5 +1,5 @@
-// What a broker tells of itself. A call draws 16 where the counts do not hold together, then 1 for a
-// symbol above 255, or 2 for an amount that is not finite; its value is then missing or 0.0.
+// What a broker tells of itself. A call draws 16 where the counts do not hold together or the lot is
+// outside its range, then 1 for a symbol above 255, or 2 for an amount that is not finite; its value is then missing or 0.0.
 ghost use mathlib.Core.Path.{_≡_};
 ghost use Rattle.broker.specs.Lender.{brokerFault};
 ghost use Rattle.broker.specs.Read.{symbolFault, amountsFault, ReadsQuote, ReadsAmount, ReadsState, readFloat, readCount, readImpact, quoteOf, holdingOf, pendingOf, valueHere, valueSold, totalOf, liquidationOf, cashHere, impactOf, costsHere};
@@ -245,10 +245,17 @@ impl UistBroker {
         ensures { λ r. ⌜ r ≡ readCount (self .exchange .counts .logged) (brokerFault self) ⌝ }
     {
         let exchange = self.exchange;
-        let x = exchange.executed_trade_count();
+        let counts = exchange.counts;
+        let fault = self.fault();
+        if fault != 0 {
+            return CountRead {
+                count: 0,
+                fault: fault,
+            };
+        }
         CountRead {
-            count: x.count,
-            fault: x.fault,
+            count: counts.logged,
+            fault: 0,
         }
     }
 

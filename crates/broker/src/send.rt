@@ -49,6 +49,7 @@ fn expecting(p: Portfolio, pending: [f64; 256], awaited: [bool; 256]) -> Portfol
         latest: latest,
         funds: funds,
         costs: costs,
+        lot: p.lot,
     }
 }
 
@@ -212,6 +213,13 @@ impl UistBroker {
     {
         let exchange = self.exchange;
         let portfolio = self.portfolio;
+        let fault = self.fault();
+        if fault != 0 {
+            return Sent {
+                broker: self,
+                event: sender::event(order, fault),
+            };
+        }
         let inserted = exchange.insert_order(order);
         let moved = inserted.exchange;
         Sent {
@@ -228,6 +236,13 @@ impl UistBroker {
     {
         let exchange = self.exchange;
         let portfolio = self.portfolio;
+        let fault = self.fault();
+        if fault != 0 {
+            return BrokerDeleted {
+                broker: self,
+                fault: fault,
+            };
+        }
         let deleted = exchange.delete_order(order_id);
         let moved = deleted.exchange;
         BrokerDeleted {

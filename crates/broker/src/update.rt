@@ -24,7 +24,7 @@ pub struct Lengths {
 
 // What an update comes to: the new state; the trades in the first `count` places, and the log's row
 // where the first of them goes; the events in the first `sent` places; the total value; and the
-// number drawn, or 0. With 13 the check stands.
+// number drawn, or 0. With 13 or 18 the check stands.
 pub struct Updated {
     pub broker: UistBroker,
     pub trades: [Trade; 1024],
@@ -77,7 +77,7 @@ impl UistBroker {
     }
 
     // An update on tables and weights that were read. Past the refusals there is one way through, with
-    // 13 or not: a return between would cost copies of all the state.
+    // 13, 18 or neither: a return between would cost copies of all the state.
     pub fn update(
         self,
         tradable: ReadTable,

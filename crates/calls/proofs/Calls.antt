@@ -17,7 +17,7 @@ use Rattle.calls.specs.declared.call.Call.{Call}
 use Rattle.calls.specs.declared.verb.Verb.{Verb}
 use Rattle.calls.specs.declared.verb.Verb.the-variants.{Malformed}
 use Rattle.calls.specs.Lists.{isEmpty, firstOf, onlyOf, firstWords, wordsIn}
-use Rattle.calls.specs.Calls.{Said, plainly, saidIf, heard, plainCall, FirstRead, sideSaid, sideNamed}
+use Rattle.calls.specs.Calls.{Said, plainly, saidIf, heard, plainCall, FirstRead, sideSaid, sideNamed, Lotted, saidBuilt}
 
 -- ---- a form is met, or it is not
 module _ (t : Bool) (s : Said) {x : Said} where
@@ -64,3 +64,7 @@ side-is v budget price {w} q {buys} {sells} eb es =
     ap (λ (b : Bool). sideSaid v budget price b sells) eb
     ∙ ap (sideSaid v budget price (sameBytes w (ascii "buy"))) es
     ∙ ap (sideNamed v budget price) q
+
+-- what stands behind a log's length, with the lot as it was read
+pub built : (v : Verb) (log : ℕ) {l m : Lotted} → l ≡ m → {x : Said} → x ≡ saidBuilt v log l → x ≡ saidBuilt v log m
+built v log e q = q ∙ ap (saidBuilt v log) e

@@ -15,10 +15,11 @@ use Rattle.market.specs.declared.weight.Weight.{Weight}
 use Rattle.costs.specs.declared.BrokerCost.{BrokerCost}
 use Rattle.words.specs.Words.{wordsOf, sameBytes, ascii}
 use Rattle.words.specs.Numbers.{someIf, wholeOf, symbolOf, floatOf}
-use Rattle.rows.specs.Rows.{orderOf}
+use Rattle.rows.specs.Rows.{orderOf, lotOf}
 use Rattle.calls.specs.declared.list.RowKind.the-variants.{Cost, Order as OrderRow, Quote as QuoteRow, Weight as WeightRow}
 use Rattle.calls.specs.declared.list.Span.{Span}
 use Rattle.calls.specs.declared.call.Call.{Call}
+use Rattle.calls.specs.declared.call.LotAt.{LotAt}
 use Rattle.calls.specs.declared.call.Room.{Room}
 use Rattle.calls.specs.declared.call.Room.the-variants.{Of as RoomOf, Malformed as NoRoom}
 use Rattle.calls.specs.declared.verb.Verb.{Verb}
@@ -38,6 +39,7 @@ pub record Rows : Type 0 where
 pub record Said : Type 0 where
   pub verb : Verb
   pub log : ℕ
+  pub lot : ℕ
   pub whole : ℕ
   pub symbol : ℕ
   pub amount : Float
@@ -50,18 +52,22 @@ pub record Said : Type 0 where
 abbrev pub noRows : Rows
 noRows = record { costs = []; first = []; fetched = []; weights = []; orders = [] }
 
--- a verb with whole numbers and lists, with amounts, or with an order
+-- a verb with whole numbers and lists, with amounts, with an order, or with a log's length, a lot and lists
 abbrev pub saying : Verb → ℕ → ℕ → ℕ → ℕ → Rows → Said
 saying v log whole symbol room rows =
-    record { verb = v; log = log; whole = whole; symbol = symbol; amount = zero64; second = zero64; is-buy = false; order = blankOrder; room = room; rows = rows }
+    record { verb = v; log = log; lot = 0; whole = whole; symbol = symbol; amount = zero64; second = zero64; is-buy = false; order = blankOrder; room = room; rows = rows }
 
 abbrev pub amounting : Verb → Float → Float → Bool → Said
 amounting v x y isBuy =
-    record { verb = v; log = 0; whole = 0; symbol = 0; amount = x; second = y; is-buy = isBuy; order = blankOrder; room = 0; rows = noRows }
+    record { verb = v; log = 0; lot = 0; whole = 0; symbol = 0; amount = x; second = y; is-buy = isBuy; order = blankOrder; room = 0; rows = noRows }
 
 abbrev pub ordering : Verb → Order → Said
 ordering v o =
-    record { verb = v; log = 0; whole = 0; symbol = 0; amount = zero64; second = zero64; is-buy = false; order = o; room = 0; rows = noRows }
+    record { verb = v; log = 0; lot = 0; whole = 0; symbol = 0; amount = zero64; second = zero64; is-buy = false; order = o; room = 0; rows = noRows }
+
+abbrev pub lotting : Verb → ℕ → ℕ → Rows → Said
+lotting v log lot rows =
+    record { verb = v; log = log; lot = lot; whole = 0; symbol = 0; amount = zero64; second = zero64; is-buy = false; order = blankOrder; room = 0; rows = rows }
 
 abbrev pub plainly : Verb → Said
 plainly v = saying v 0 0 0 0 noRows
@@ -133,13 +139,24 @@ saidSide v ws =
 
 -- ---- lists: a slash ends each but the last
 
--- LOG COST* / QUOTE*
-unfoldable pub saidNew : Verb → Words → Said
-saidNew v ws =
-    formed (wholeOf (firstOf ws)) (λ log.
-    formed (listOf Cost 32 true (restOf ws)) (λ costs.
+-- a lot, and the words behind it
+pub record Lotted : Type 0 where
+  pub lot : ℕ
+  pub behind : Words
+
+-- the lot, which may be left out: the first word's number and the words behind it; where it is none, 1 and the words as they are
+unfoldable pub lotAt : Words → Lotted
+lotAt ws = Option·elim (lotOf (firstOf ws)) (record { lot = 1; behind = ws }) (λ n. record { lot = n; behind = restOf ws })
+
+-- LOG lot:LOT COST* / QUOTE*, where the lot may be left out: what stands behind LOG, and all of it
+abbrev pub saidBuilt : Verb → ℕ → Lotted → Said
+saidBuilt v log lotted =
+    formed (listOf Cost 32 true (lotted .behind)) (λ costs.
     formed (listOf QuoteRow 512 false (costs .behind)) (λ first.
-    saying v log 0 0 0 (record { costs = map costOrBlank (costs .words); first = map quoteOrBlank (first .words); fetched = []; weights = []; orders = [] }))))
+    lotting v log (lotted .lot) (record { costs = map costOrBlank (costs .words); first = map quoteOrBlank (first .words); fetched = []; weights = []; orders = [] })))
+
+unfoldable pub saidNew : Verb → Words → Said
+saidNew v ws = formed (wholeOf (firstOf ws)) (λ log. saidBuilt v log (lotAt (restOf ws)))
 
 -- QUOTE* / QUOTE*: the tradable table, then the fetched one
 unfoldable pub saidCheck : Verb → Words → Said
@@ -226,6 +243,7 @@ heard line c =
     record {
       verb = c .verb;
       log = c .log;
+      lot = c .lot;
       whole = c .whole;
       symbol = c .symbol;
       amount = c .amount;
@@ -252,6 +270,7 @@ plainCall v =
     record {
       verb = v;
       log = 0;
+      lot = 0;
       whole = 0;
       symbol = 0;
       amount = zero64;
@@ -265,6 +284,10 @@ plainCall v =
       weights = noSpan;
       orders = noSpan;
     }
+
+-- what a `LotAt` says of a line
+abbrev pub lotted : List ℕ → LotAt → Lotted
+lotted line l = record { lot = l .lot; behind = wordsOf (drop (l .next) line) }
 
 -- what a `Room` says
 abbrev pub roomIn : Room → Option ℕ

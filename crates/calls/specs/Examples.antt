@@ -12,7 +12,7 @@ use Rattle.market.specs.declared.quote.Quote.{Quote}
 use Rattle.costs.specs.declared.BrokerCost.the-variants.{PctOfValue, Flat}
 use Rattle.words.specs.Words.{wordsOf, ascii}
 use Rattle.calls.specs.declared.verb.Verb.the-variants.{Blank, Malformed, New, Lend, Deposit, SendList, Delete, Check, Walk, Update, GetPositionQty, GetPositionLiquidationValue, GetHoldings, TradeImpactTotal, State}
-use Rattle.calls.specs.Calls.{Said, saying, amounting, plainly, noRows, said}
+use Rattle.calls.specs.Calls.{Said, saying, amounting, lotting, plainly, noRows, said}
 
 -- 1.0, 99.0 and 100.0
 abbrev one : Float
@@ -54,8 +54,15 @@ Examples =
     × (lineSays "trade_impact_total 4059000000000000 4058c00000000000 hold" ≡ plainly Malformed)
     -- costs in their order, then the first table
     × (lineSays "new 16 flat:3ff0000000000000 pct_of_value:3ff0000000000000 / 3:4058c00000000000:4059000000000000:1" ≡
-    saying New 16 0 0 0 (record { costs = Flat one ∷ PctOfValue one ∷ []; first = quoted 3 (pos 1) ∷ []; fetched = []; weights = []; orders = [] }))
-    × (lineSays "new 16 /" ≡ saying New 16 0 0 0 noRows)
+    lotting New 16 1 (record { costs = Flat one ∷ PctOfValue one ∷ []; first = quoted 3 (pos 1) ∷ []; fetched = []; weights = []; orders = [] }))
+    × (lineSays "new 16 /" ≡ lotting New 16 1 noRows)
+    -- a lot behind the log's length; a number that is too large; a lot behind a cost; a second one
+    × (lineSays "new 16 lot:5 /" ≡ lotting New 16 5 noRows)
+    × (lineSays "new 16 lot:5 flat:3ff0000000000000 / 3:4058c00000000000:4059000000000000:1" ≡
+    lotting New 16 5 (record { costs = Flat one ∷ []; first = quoted 3 (pos 1) ∷ []; fetched = []; weights = []; orders = [] }))
+    × (lineSays "new 16 lot:4294967296 /" ≡ plainly Malformed)
+    × (lineSays "new 16 flat:3ff0000000000000 lot:5 /" ≡ plainly Malformed)
+    × (lineSays "new 16 lot:5 lot:5 /" ≡ plainly Malformed)
     -- the tradable table, then the fetched one; no slash; a slash too many
     × (lineSays "check 3:4058c00000000000:4059000000000000:1 / 4:4058c00000000000:4059000000000000:2 5:4058c00000000000:4059000000000000:2" ≡
     saying Check 0 0 0 0 (record { costs = []; first = quoted 3 (pos 1) ∷ []; fetched = quoted 4 (pos 2) ∷ quoted 5 (pos 2) ∷ []; weights = []; orders = [] }))

@@ -6,7 +6,7 @@ ghost use Rattle.words.specs.Numbers.{wholeIn, wholeOf, floatIn, floatOf};
 ghost use Rattle.words.specs.Words.{wordsOf, Holds};
 ghost use Rattle.calls.specs.declared.verb.Verb.the-variants.{Malformed};
 ghost use Rattle.calls.specs.Lists.{isEmpty, onlyOf};
-ghost use Rattle.calls.specs.Calls.{noSpan, plainCall, heard, said, FirstRead, roomIn, roomFrom, saidAlone, saidWhole, saidLog, saidSymbol, saidAmount, saidOrder, saidRoom, saidQuantity, saidSide, saidNew, saidCheck, saidWalk, saidOrders, saidUpdate};
+ghost use Rattle.calls.specs.Calls.{noSpan, plainCall, heard, said, FirstRead, lotted, lotAt, roomIn, roomFrom, saidAlone, saidWhole, saidLog, saidSymbol, saidAmount, saidOrder, saidRoom, saidQuantity, saidSide, saidNew, saidCheck, saidWalk, saidOrders, saidUpdate};
 use crate::list;
 use crate::list::RowKind;
 use crate::list::Span;
@@ -14,6 +14,7 @@ use crate::list::SpanRead;
 use crate::verb;
 use crate::verb::Verb;
 use market::order::Order;
+use rows::LotRead;
 use rows::OrderRead;
 use words::number;
 use words::number::FloatRead;
@@ -26,6 +27,7 @@ use words::word::Word;
 pub struct Call {
     pub verb: Verb,
     pub log: u64,
+    pub lot: u32,
     pub whole: u64,
     pub symbol: u32,
     pub amount: f64,
@@ -57,6 +59,7 @@ pub fn plain(verb: Verb) -> Call
     Call {
         verb: verb,
         log: 0,
+        lot: 0,
         whole: 0,
         symbol: 0,
         amount: 0.0,
@@ -130,6 +133,24 @@ fn amount_at(line: &[u8], at: usize) -> AmountAt
     AmountAt {
         read: number::float(&line[from..to]),
         next: to,
+    }
+}
+
+// A new broker's lot, which is 1 where the word is none, and where the words behind it are looked for.
+struct LotAt {
+    lot: u32,
+    next: usize,
+}
+
+fn lot_at(line: &[u8], at: usize) -> LotAt
+    ensures { λ r. ⌜ lotted (now (line .entry)) r ≡ lotAt (wordsOf (drop at (now (line .entry)))) ⌝ }
+{
+    let w = word::word_at(line, at);
+    let from = w.from;
+    let to = w.to;
+    match rows::lot(&line[from..to]) {
+        LotRead::Of(n) => LotAt { lot: n, next: to },
+        LotRead::Malformed => LotAt { lot: 1, next: at },
     }
 }
 
@@ -295,7 +316,7 @@ fn with_side(line: &[u8], at: usize, verb: Verb) -> Call
     c
 }
 
-// LOG COST* / QUOTE*
+// LOG lot:LOT COST* / QUOTE*, where the lot may be left out
 fn with_costs(line: &[u8], at: usize, verb: Verb) -> Call
     ensures { λ r. ⌜ heard (now (line .entry)) r ≡ saidNew verb (wordsOf (drop at (now (line .entry)))) ⌝ }
 {
@@ -304,7 +325,8 @@ fn with_costs(line: &[u8], at: usize, verb: Verb) -> Call
     let WholeRead::Of(length) = read else {
         return malformed();
     };
-    let SpanRead::Of(costs) = list::span_at(line, log.next, RowKind::Cost, 32, true) else {
+    let lot = lot_at(line, log.next);
+    let SpanRead::Of(costs) = list::span_at(line, lot.next, RowKind::Cost, 32, true) else {
         return malformed();
     };
     let SpanRead::Of(first) = list::span_at(line, costs.next, RowKind::Quote, 512, false) else {
@@ -312,6 +334,7 @@ fn with_costs(line: &[u8], at: usize, verb: Verb) -> Call
     };
     let mut c = plain(verb);
     c.log = length;
+    c.lot = lot.lot;
     c.costs = costs;
     c.first = first;
     c

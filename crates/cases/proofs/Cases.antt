@@ -1,6 +1,7 @@
 -- The worked cases, proved by computing. Assumes nothing.
 use mathlib.Core.Path.{refl}
 use lib.Ieee as Ieee
+use Rattle.floats.specs.Lots.{lotOf, lotShares}
 use Rattle.floats.specs.Whole.{floorOf, ceilOf}
 use Rattle.market.specs.Faults.{drawn}
 use Rattle.market.specs.Quotes.{emptyTable, tableOf}
@@ -24,6 +25,7 @@ use Rattle.cases.specs.Booking.{booking, valuing, folding}
 use Rattle.cases.specs.Liquidating.{liquidating}
 use Rattle.cases.specs.Checking.{checking}
 use Rattle.cases.specs.Weighing.{weighing}
+use Rattle.cases.specs.Lots.{lots}
 use Rattle.cases.specs.Cases.{Cases}
 
 figures-hold : AllHold figures
@@ -63,8 +65,12 @@ unfolding Ieee.le Ieee.ofInt Ieee.sub Ieee.mul Ieee.div Ieee.ofBits ceilOf drawn
 checking-hold = (refl, (refl, (refl, (refl, (refl, (refl, (refl, (refl, (refl, (refl, (refl, _)))))))))))
 
 weighing-hold : AllHold weighing
-unfolding Ieee.le Ieee.ofInt Ieee.sub Ieee.mul Ieee.div Ieee.ofBits floorOf drawn tradeImpact tradeImpactTotal symbols totalValue liquidationValue fetched expected sharesFor orderFor wanted planOf sendEvent Ledger.sending sendEvents rescuing Ledger.checking callTests answerAs
+unfolding Ieee.le Ieee.ofInt Ieee.sub Ieee.mul Ieee.div Ieee.ofBits floorOf lotShares drawn tradeImpact tradeImpactTotal symbols totalValue liquidationValue fetched expected sharesFor orderFor wanted planOf sendEvent Ledger.sending sendEvents rescuing Ledger.checking callTests answerAs
 weighing-hold = (refl, (refl, (refl, (refl, (refl, (refl, (refl, (refl, (refl, (refl, (refl, (refl, (refl, (refl, (refl, _)))))))))))))))
 
+lots-hold : AllHold lots
+unfolding Ieee.le Ieee.ofInt Ieee.sub Ieee.mul Ieee.div Ieee.ofBits floorOf ceilOf lotOf lotShares drawn tradeOn tradeImpact tradeImpactTotal symbols totalValue liquidationValue fetched settled expected failedIf salesFrom salesFor sharesFor orderFor wanted planOf start sendEvent Ledger.sending sendEvents rescuing Ledger.checking callTests acting step answerAs run
+lots-hold = (refl, (refl, (refl, (refl, (refl, (refl, (refl, (refl, (refl, (refl, (refl, (refl, (refl, (refl, (refl, (refl, (refl, _)))))))))))))))))
+
 pub cases : Cases
-cases = (figures-hold, tables-hold, trading-hold, sending-hold, booking-hold, valuing-hold, folding-hold, liquidating-hold, checking-hold, weighing-hold)
+cases = (figures-hold, tables-hold, trading-hold, sending-hold, booking-hold, valuing-hold, folding-hold, liquidating-hold, checking-hold, weighing-hold, lots-hold)

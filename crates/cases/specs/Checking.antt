@@ -24,7 +24,7 @@ pub record Seen : Type 0 where
   pub waiting : List Order
 
 abbrev after : List Quote → List Call → Ledger
-after first cs = Ledger.run (start [] first 8) cs
+after first cs = Ledger.run (start [] 1 first 8) cs
 
 abbrev seen : Ledger → Seen
 seen L =

@@ -9,7 +9,7 @@ use Rattle.costs.specs.declared.BrokerCost.{BrokerCost}
 use Rattle.costs.specs.declared.BrokerCost.the-variants.{PerShare, PctOfValue, Flat}
 use Rattle.costs.specs.Costs.{tradeImpactTotal, tradeCosts, isFinite}
 use Rattle.costs.specs.Kept.{costsOf, noCosts, withCost}
-use Rattle.broker.specs.Build.{costTests}
+use Rattle.broker.specs.Build.{builderTests}
 use Rattle.ledger.specs.Examples.{Example, example, num, halves}
 use Rattle.cases.specs.Made.{ratio, negative, even, even+2}
 
@@ -61,5 +61,5 @@ figures =
     example 116 (left (costsOf (foldl withCost noCosts (replicate 16 (Flat (num 1))))) true) (num 984, num 10) ∷
     -- the builder's numbers: 16 costs pass; 17 draw 14, which comes before 2; a cost that is not finite draws 2
     example 117
-    (drawn (costTests 16 (Flat (num 1) ∷ [])) ∷ drawn (costTests 17 (Flat nan ∷ [])) ∷ drawn (costTests 2 (Flat (num 1) ∷ PerShare nan ∷ [])) ∷ [])
+    (drawn (builderTests 16 1 (Flat (num 1) ∷ [])) ∷ drawn (builderTests 17 1 (Flat nan ∷ [])) ∷ drawn (builderTests 2 1 (Flat (num 1) ∷ PerShare nan ∷ [])) ∷ [])
     (0 ∷ 14 ∷ 2 ∷ []) ∷ []

@@ -8,4 +8,5 @@ pub mod Booking
 pub mod Liquidating
 pub mod Checking
 pub mod Weighing
+pub mod Lots
 pub mod Cases

@@ -40,7 +40,7 @@ dated s bid ask date = record { symbol = s; bid = bid; ask = ask; date = date }
 abbrev pub tradeAt : TradeType → ℕ → Float → Float → ℤ → Trade
 tradeAt k s quantity value date = record { symbol = s; typ = k; value = value; quantity = quantity; date = date }
 
--- ---- money: these costs, latest quotes, cash, holdings and pending quantities; Ready
+-- ---- money: these costs, latest quotes, cash, holdings and pending quantities; lot 1, Ready
 
 abbrev pub entries : List (ℕ × Float) → ℕ → Option Float
 entries [] n = none
@@ -48,7 +48,12 @@ entries (e ∷ l) n = cond (eqb n (e .0)) (some (e .1)) (entries l n)
 
 abbrev pub having : List BrokerCost → List Quote → Float → List (ℕ × Float) → List (ℕ × Float) → Money
 having costs quotes cash held pending =
-    record { costs = costs; latest = rowFor quotes; failed = false; cash = cash; held = entries held; pending = entries pending }
+    record { costs = costs; lot = 1; latest = rowFor quotes; failed = false; cash = cash; held = entries held; pending = entries pending }
+
+-- the same with another lot
+abbrev pub inLots : ℕ → Money → Money
+inLots lot m =
+    record { costs = m .costs; lot = lot; latest = m .latest; failed = m .failed; cash = m .cash; held = m .held; pending = m .pending }
 
 -- the plain ledger with this money, for a log of 8 rows, no order taken yet
 abbrev pub holding : Money → Ledger

@@ -67,6 +67,10 @@ use Rattle.dispatch.proofs.log_calls.unchanged.Kinds as unchanged-Kinds
 use Rattle.dispatch.proofs.log_calls.unchanged.Reads as unchanged-Reads
 use Rattle.dispatch.proofs.log_calls.unchanged.Symbol as unchanged-Symbol
 use Rattle.dispatch.proofs.log_calls.unchanged.Met as unchanged-Met
+use Rattle.dispatch.proofs.log_calls.lot_in.Kinds as lot-in-Kinds
+use Rattle.dispatch.proofs.log_calls.lot_in.Reads as lot-in-Reads
+use Rattle.dispatch.proofs.log_calls.lot_in.Symbol as lot-in-Symbol
+use Rattle.dispatch.proofs.log_calls.lot_in.Met as lot-in-Met
 
 abbrev pub now : Callee
 now = record { n = 0; ps = now-Kinds.ps; r = now-Kinds.r; Pre = now-Reads.Asked; Post = now-Reads.Learnt; key = "arrays::clock::now" }
@@ -163,3 +167,9 @@ unchanged = record { n = 0; ps = unchanged-Kinds.ps; r = unchanged-Kinds.r; Pre 
 
 pub knows-unchanged : (w : World) (γ : Env) → γ "dispatch::log_calls::unchanged" ≡ unchanged-Symbol.routine → Knows unchanged (under w γ)
 knows-unchanged w γ e = unchanged-Reads.known w γ "dispatch::log_calls::unchanged" unchanged-Symbol.routine e (unchanged-Met.met (w .𝓤) (w .H) (w .𝓜) (w .𝓖) (w .𝓡))
+
+abbrev pub lot-in : Callee
+lot-in = record { n = 0; ps = lot-in-Kinds.ps; r = lot-in-Kinds.r; Pre = lot-in-Reads.Asked; Post = lot-in-Reads.Learnt; key = "dispatch::log_calls::lot_in" }
+
+pub knows-lot-in : (w : World) (γ : Env) → γ "dispatch::log_calls::lot_in" ≡ lot-in-Symbol.routine → Knows lot-in (under w γ)
+knows-lot-in w γ e = lot-in-Reads.known w γ "dispatch::log_calls::lot_in" lot-in-Symbol.routine e (lot-in-Met.met (w .𝓤) (w .H) (w .𝓜) (w .𝓖) (w .𝓡))

@@ -77,6 +77,11 @@ pub(crate) fn symbol_in(j: Job) -> u32 {
     c.symbol
 }
 
+pub(crate) fn lot_in(j: Job) -> u32 {
+    let c = j.call;
+    c.lot
+}
+
 pub(crate) fn lists_in(j: Job) -> Lists {
     j.lists
 }
@@ -166,7 +171,7 @@ pub fn writing_call(
 pub fn reading_call(t: &mut [u8; 65536], d: Done, j: Job, log: &[Trade]) -> Done {
     let from = clock::now();
     if is_new(j) {
-        let y = arrays::build_on(costs_in(j), lists_in(j), log);
+        let y = arrays::build_on(costs_in(j), lot_in(j), lists_in(j), log);
         return build_done(t, d, y, from);
     }
     if is_basis(j) {

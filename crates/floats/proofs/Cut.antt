@@ -40,7 +40,7 @@ low-end n d h = omega arith
 high-end : (n d : ℕ) → n < 2 ^ 52 * d → 0 < d → n * 1 < 1 * 2 ^ 64 * d
 high-end n d h k = omega arith
 
-in-range : (m : ℕ) (e : ℤ) → T (lt (fin false m e) bound) → m * up e < 2 ^ 52 * down e
+pub in-range : (m : ℕ) (e : ℤ) → T (lt (fin false m e) bound) → m * up e < 2 ^ 52 * down e
 unfolding lt
 in-range m e b = tidy (m * up e) (down e) (ltb→lt (m * up e * 1) (1 * 2 ^ 52 * down e) b)
 
@@ -61,7 +61,7 @@ uncapped a h = omega arith
 cut-small : (m : ℕ) (e : ℤ) → T (lt (fin false m e) bound) → m * up e / down e < 2 ^ 52
 cut-small m e b = div-lt-iff-lt-mul (down-pos e) .1 (in-range m e b)
 
-cut-is : (m : ℕ) (e : ℤ) → T (lt (fin false m e) bound) → toUnsigned 64 (fin false m e) ≡ m * up e / down e
+pub cut-is : (m : ℕ) (e : ℤ) → T (lt (fin false m e) bound) → toUnsigned 64 (fin false m e) ≡ m * up e / down e
 unfolding toUnsigned
 cut-is m e b = uncapped (m * up e / down e) (cut-small m e b)
 
@@ -85,7 +85,7 @@ trunc-floor (fin true m e) a b = absurd (unfold lt in a)
 trunc-floor (fin false m e) a b = ap (λ (n : ℕ). round binary64 false n 1) (cut-is m e b)
 
 -- ---- whether the whole part n is less than x says whether something was cut
-less-val : (t : Float) (n m : ℕ) (e : ℤ) → HasValue t false n 1 → T (lt t (fin false m e)) → n * down e < m * up e
+pub less-val : (t : Float) (n m : ℕ) (e : ℤ) → HasValue t false n 1 → T (lt t (fin false m e)) → n * down e < m * up e
 unfolding lt
 less-val nan n m e v h = absurd v
 less-val (inf s) n m e v h = absurd v
@@ -95,7 +95,7 @@ less-val (fin false p d) n m e v h =
     (subst (λ (x : ℕ). x < m * up e * down d) (ap (λ (x : ℕ). x * down e) (sym (mul-one (p * up d)) ∙ v .1) ∙ mul-right-comm n (down d) (down e))
     (ltb→lt (p * up d * down e) (m * up e * down d) h))
 
-not-less-val : (t : Float) (n m : ℕ) (e : ℤ) → HasValue t false n 1 → T (not (lt t (fin false m e))) → m * up e ≤ n * down e
+pub not-less-val : (t : Float) (n m : ℕ) (e : ℤ) → HasValue t false n 1 → T (not (lt t (fin false m e))) → m * up e ≤ n * down e
 unfolding lt
 not-less-val nan n m e v h = absurd v
 not-less-val (inf s) n m e v h = absurd v
@@ -105,7 +105,7 @@ not-less-val (fin false p d) n m e v h =
     (subst (λ (x : ℕ). m * up e * down d ≤ x) (ap (λ (x : ℕ). x * down e) (sym (mul-one (p * up d)) ∙ v .1) ∙ mul-right-comm n (down d) (down e))
     (nltb→le (p * up d * down e) (m * up e * down d) h)) (down-pos d)
 
-left-over : (a b : ℕ) → a / b * b < a → over a b ≡ a / b + 1
+pub left-over : (a b : ℕ) → a / b * b < a → over a b ≡ a / b + 1
 left-over a b h = go (a % b) (div-add-mod' a b)
   where
     none : (x y : ℕ) → x + 0 ≡ y → x < y → ⊥
@@ -115,14 +115,14 @@ left-over a b h = go (a % b) (div-add-mod' a b)
     go zero p = absurd (none (a / b * b) a p h)
     go (suc r) p = ap (λ (t : Bool). a / b + cond t 0 1) (eqb·suc-zero r)
 
-none-over : (a b : ℕ) → a ≤ a / b * b → over a b ≡ a / b
+pub none-over : (a b : ℕ) → a ≤ a / b * b → over a b ≡ a / b
 none-over a b h = over-is a b (zero-rest (a / b * b) (a % b) a (div-add-mod' a b) h)
   where
     zero-rest : (x r y : ℕ) → x + r ≡ y → y ≤ x → r ≡ 0
     zero-rest x r y p q = omega arith
 
 -- the whole part as a float
-part-val : (m : ℕ) (e : ℤ) → T (lt (fin false m e) bound) → HasValue (round binary64 false (m * up e / down e) 1) false (m * up e / down e) 1
+pub part-val : (m : ℕ) (e : ℤ) → T (lt (fin false m e) bound) → HasValue (round binary64 false (m * up e / down e) 1) false (m * up e / down e) 1
 part-val m e b = round-whole binary64 false (m * up e / down e) (le-trans (le-of-lt (cut-small m e b)) (lit≤ tt))
 
 pub trunc-ceil : (x : Float) → T (lt nought x) → T (lt x bound) → lt (ofInt binary64 (pos (toUnsigned 64 x))) x ≡ true → ofInt binary64 (pos (toUnsigned 64 x + 1)) ≡ ceilOf x

@@ -122,7 +122,7 @@ meet-back m e n d p q =
     and-i (eqb a b) (eqb a 0) (eq→eqb (p ∙ sym q)) (eq→eqb p)
 
 -- ---- the order of a value p * 2 ^ d that is the whole number n, and the fraction m * 2 ^ e
-abbrev Is : ℕ → ℤ → ℕ → Type 0
+abbrev pub Is : ℕ → ℤ → ℕ → Type 0
 Is p d n = p * up d * 1 ≡ n * down d
 
 one-pos : 0 < 1

@@ -26,7 +26,7 @@ neg-units f q k = go (ltb (q * 2 ^ k) (2 ^ (low f + suc (emax f))))
     go true = neg-odd (suc (prec f)) q k (low f)
     go false = refl
 
-neg-round : (f : Format) (n d : ℕ) → neg (round f false n d) ≡ round f true n d
+pub neg-round : (f : Format) (n d : ℕ) → neg (round f false n d) ≡ round f true n d
 neg-round f n d = ap neg (round-is f false n d) ∙ neg-units f _ _ ∙ sym (round-is f true n d)
 
 -- ---- the tests of `floor` and `ceil`
@@ -80,7 +80,7 @@ infinite : (s : Bool) → Itself (inf s)
 unfolding floorOf ceilOf
 infinite s = (refl, refl)
 
-high-tidy : (n d : ℕ) → 1 * 2 ^ 52 * d ≤ n * 1 → 2 ^ 52 * d ≤ n
+pub high-tidy : (n d : ℕ) → 1 * 2 ^ 52 * d ≤ n * 1 → 2 ^ 52 * d ≤ n
 high-tidy n d h = omega arith
 
 pub at-least : (x : Float) → T (fits binary64 x) → T (lt nought x) → T (not (lt x bound)) → Itself x

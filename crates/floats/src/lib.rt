@@ -10,6 +10,8 @@ ghost use lib.Ieee.{fin};
 ghost use lib.Ieee.Scale as Scale;
 ghost use Rattle.floats.specs.Whole.{floorOf, ceilOf};
 
+pub mod lot;
+
 // The greatest whole number not above a, for 0 < a < 2^52.
 fn under(a: f64) -> f64
     requires { ⌜ T (Ieee.lt (fin false 0 (pos 0)) a) ⌝ ∗ ⌜ T (Ieee.lt a (fin false 1 (pos 52))) ⌝ }

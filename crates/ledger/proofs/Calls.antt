@@ -4,7 +4,7 @@ use native.Mathlib.Omega.{arith}
 use mathlib.Core.Bool.{Bool, true, false, not, cond, _||_}
 use mathlib.Core.Path.{_≡_, refl, _∙_, sym, ap, ap₂, subst}
 use mathlib.Core.List.{List, [], _∷_, _++_}
-use lib.Dec.{eqb, ltb}
+use lib.Dec.{ltb}
 use lib.Ieee.{Float}
 use lib.Ieee.Scale.{finite}
 use lib.ListN.{length}
@@ -22,7 +22,7 @@ use Rattle.market.proofs.Tables.{table-numbered}
 use Rattle.market.proofs.Faults.{numbered-append, append-none, none-drawn}
 use Rattle.account.specs.declared.BrokerCashEvent.the-variants.{WithdrawSuccess, WithdrawFailure, DepositSuccess, OperationFailure, NotFinite}
 use Rattle.orders.specs.Orders.{Taken, fillsOf}
-use Rattle.exchange.specs.State.{brokenOf}
+use Rattle.broker.specs.Lender.{brokenFor}
 use Rattle.rules.specs.Amounts.{plus, minus, below}
 use Rattle.rules.specs.Money.{withCash}
 use Rattle.rules.specs.Values.{totalValue}
@@ -170,7 +170,7 @@ module _ (l₀ : List Trade) (s : Held) (L : Ledger) (m : Meets l₀ s L) (h : l
       ∙ length-over (L .orders .trades) l₀ (omega (arith, m .stands .books .fit .traded, m .stands .books .fit .room-left, m .room-is))
 
   -- 16 is not drawn by a log that is the start's
-  pub log-test : (not (eqb (length (s .log)) (s .broker .exchange .counts .room)) || brokenOf (s .broker .exchange .counts)) ≡ false
+  pub log-test : brokenFor (s .broker) (length (s .log)) ≡ false
   log-test =
       ap₂ (λ x y. not x || y) (eq-eqb (length (s .log)) (s .broker .exchange .counts .room) (log-length ∙ sym (m .room-is) ∙ sym (m .stands .books .room-is))) (unbroken (s .broker) L (m .stands))
 

@@ -83,18 +83,18 @@ module _ (b : UistBroker) (L : Ledger) (m : Stands b L) (t f : List Quote) (dt :
 
   -- the portfolio with the fetched quotes
   abbrev quoted : Portfolio
-  quoted = record { latest = mergeOf (b .portfolio .latest) (tableOf f); funds = b .portfolio .funds; costs = b .portfolio .costs }
+  quoted = record { latest = mergeOf (b .portfolio .latest) (tableOf f); funds = b .portfolio .funds; costs = b .portfolio .costs; lot = b .portfolio .lot }
 
   quoted-view : moneyOf quoted ≡ fetched f (L .money)
   unfolding fetched
   quoted-view =
-      ap (λ r. record { costs = moneyOf (b .portfolio) .costs; latest = r; failed = moneyOf (b .portfolio) .failed; cash = moneyOf (b .portfolio) .cash; held = moneyOf (b .portfolio) .held; pending = moneyOf (b .portfolio) .pending })
+      ap (λ r. record { costs = moneyOf (b .portfolio) .costs; lot = moneyOf (b .portfolio) .lot; latest = r; failed = moneyOf (b .portfolio) .failed; cash = moneyOf (b .portfolio) .cash; held = moneyOf (b .portfolio) .held; pending = moneyOf (b .portfolio) .pending })
       (merge-fetched (b .portfolio .latest) f (m .present) (m .rows) df)
       ∙ ap (fetched f) (m .money)
 
   booked-view : moneyOf (bookedBy b (tableOf t) (tableOf f) .portfolio) ≡ booking L t f .money
   booked-view =
-      ap (λ l. moneyOf (record { latest = quoted .latest; funds = foldl settleOne (b .portfolio .funds) l; costs = b .portfolio .costs })) trades-same
+      ap (λ l. moneyOf (record { latest = quoted .latest; funds = foldl settleOne (b .portfolio .funds) l; costs = b .portfolio .costs; lot = b .portfolio .lot })) trades-same
       ∙ settles-view quoted (fillsOf t (L .orders .booked)) (fills-below t dt (L .orders .booked)) (m .wide)
       ∙ ap (λ n. foldl settled n (fillsOf t (L .orders .booked))) quoted-view
 
@@ -107,6 +107,7 @@ module _ (b : UistBroker) (L : Ledger) (m : Stands b L) (t f : List Quote) (dt :
         wide = settles-wide (b .portfolio .funds) (tradesOf (rowAt (tableOf t)) (restingOf (b .exchange))) (m .wide);
         present = length-each _ 0 (b .portfolio .latest .present) ∙ m .present;
         rows = length-each _ 0 (b .portfolio .latest .rows) ∙ m .rows;
+        lot = m .lot;
       }
 
 -- ---- a shortfall
@@ -124,20 +125,22 @@ unfolding failedOf failedIf
 failed-by b L m true =
     record {
       books = m .books;
-      money = m .money ∙ ap (λ x. record { costs = L .money .costs; latest = L .money .latest; failed = x; cash = L .money .cash; held = L .money .held; pending = L .money .pending }) (sym (or-false (L .money .failed)));
+      money = m .money ∙ ap (λ x. record { costs = L .money .costs; lot = L .money .lot; latest = L .money .latest; failed = x; cash = L .money .cash; held = L .money .held; pending = L .money .pending }) (sym (or-false (L .money .failed)));
       wide = m .wide;
       present = m .present;
       rows = m .rows;
+      lot = m .lot;
     }
 failed-by b L m false =
     record {
       books = m .books;
       money =
-          ap (λ n. record { costs = n .costs; latest = n .latest; failed = true; cash = n .cash; held = n .held; pending = n .pending }) (m .money)
-          ∙ ap (λ x. record { costs = L .money .costs; latest = L .money .latest; failed = x; cash = L .money .cash; held = L .money .held; pending = L .money .pending }) (sym (or-true (L .money .failed)));
+          ap (λ n. record { costs = n .costs; lot = n .lot; latest = n .latest; failed = true; cash = n .cash; held = n .held; pending = n .pending }) (m .money)
+          ∙ ap (λ x. record { costs = L .money .costs; lot = L .money .lot; latest = L .money .latest; failed = x; cash = L .money .cash; held = L .money .held; pending = L .money .pending }) (sym (or-true (L .money .failed)));
       wide = record { holding = m .wide .holding; pending = m .wide .pending; awaited = m .wide .awaited };
       present = m .present;
       rows = m .rows;
+      lot = m .lot;
     }
 
 rescue-by : (b : UistBroker) (L : Ledger) → Stands b L → (t : Bool) →

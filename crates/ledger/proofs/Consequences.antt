@@ -40,16 +40,16 @@ resting-there i zero n (d ∷ l) e s t f =
 resting-there i (suc k) n (d ∷ l) e s t f =
     rest-behind (d .fate) i d (bookedAs n (e .taken .order)) (restingFrom (suc i) l) (resting-there (suc i) k n l e (omega arith) t f)
 
-module _ (costs : TradeCosts) (first : List Quote) (l₀ : List Trade) (d : Buildable costs first) (h : length l₀ < 2 ^ 64) where
+module _ (costs : TradeCosts) (lot : ℕ) (first : List Quote) (l₀ : List Trade) (d : Buildable costs lot first) (h : length l₀ < 2 ^ 64) where
   -- no order trades in the call that took it or in the check that booked it
-  pub never-at-once : (past : List Call) (c : Call) → NeverAtOnce costs first l₀ past c
+  pub never-at-once : (past : List Call) (c : Call) → NeverAtOnce costs lot first l₀ past c
   never-at-once past c =
       let K = brokerCalls in
-      let takes = takesAfter costs first (length l₀) in
-      let after = ordersAfter costs first (length l₀) in
+      let takes = takesAfter costs lot first (length l₀) in
+      let after = ordersAfter costs lot first (length l₀) in
       let now = past ++ (c ∷ []) in
-      let D = demand-3 costs first l₀ d h now in
-      let P = demand-3 costs first l₀ d h past in
+      let D = demand-3 costs lot first l₀ d h now in
+      let P = demand-3 costs lot first l₀ d h past in
       record {
         added = rowsIn K takes after past c;
         log-grows =
@@ -70,7 +70,7 @@ module _ (costs : TradeCosts) (first : List Quote) (l₀ : List Trade) (d : Buil
       }
 
   -- no order has two rows: the rows of the log and the orders that have traded match one to one
-  pub no-two-rows : (cs : List Call) → NoTwoRows costs first l₀ cs
+  pub no-two-rows : (cs : List Call) → NoTwoRows costs lot first l₀ cs
   no-two-rows cs =
-      let D = demand-3 costs first l₀ d h cs in
-      subst (λ l. OneRowEach l (ordersAfter costs first (length l₀) cs .booked)) (sym (D .compared .logged)) (D .lived .once)
+      let D = demand-3 costs lot first l₀ d h cs in
+      subst (λ l. OneRowEach l (ordersAfter costs lot first (length l₀) cs .booked)) (sym (D .compared .logged)) (D .lived .once)

@@ -1,7 +1,7 @@
 -- Demand 3, proved: the program meets the ledger over every list of calls, and the ledger has the claim. Assumes nothing.
-use Prim.Native.Nat.{ℕ, zero, suc, _<_, _^_}
+use Prim.Native.Nat.{ℕ, zero, suc, _<_, _≤_, _^_}
 use native.Mathlib.Omega.{arith}
-use mathlib.Core.Bool.{Bool, true, false, not, cond}
+use mathlib.Core.Bool.{Bool, true, false, not, cond, _&&_}
 use mathlib.Core.Path.{_≡_, refl, _∙_, sym, ap, ap₂, subst, fun-ext}
 use mathlib.Core.List.{List, [], _∷_, _++_}
 use mathlib.Core.Option.{none, some}
@@ -9,7 +9,7 @@ use lib.Dec.{ltb}
 use lib.Ieee as Ieee
 use lib.Ieee.{nan}
 use lib.ListN.{length, take, getD, replicate, length-replicate, getD-replicate}
-use borrow.Author.Tests.{ltb-true, le-ltb}
+use borrow.Author.Tests.{ltb-true, le-ltb, le-leb}
 use Rattle.lists.specs.Lists.{All}
 use Rattle.lists.proofs.Over.{take-over}
 use Rattle.market.specs.Faults.{_draws_, drawn, unlessDrawn}
@@ -23,6 +23,7 @@ use Rattle.costs.specs.declared.TradeCosts.{TradeCosts}
 use Rattle.costs.specs.declared.BrokerCost.{BrokerCost}
 use Rattle.costs.specs.Costs.{isFinite}
 use Rattle.costs.specs.Kept.{costsOf}
+use Rattle.floats.specs.Lots.{isLot}
 use Rattle.orders.specs.Orders.{Taken, noOrders, erase}
 use Rattle.orders.proofs.Shape.{Shape, kept, quiet, acting, erasing}
 use Rattle.orders.proofs.Lives as Lives
@@ -30,7 +31,7 @@ use Rattle.exchange.specs.State.{fresh, blankRow}
 use Rattle.rules.specs.Money.{unlessZero}
 use Rattle.rules.specs.Basis.{costBasis}
 use Rattle.portfolio.specs.State.{noFunds, heldAt, pendingIf, pendingAt}
-use Rattle.broker.specs.Build.{buildOf, eachFinite, costTests, freshBroker, noBroker}
+use Rattle.broker.specs.Build.{buildOf, eachFinite, builderTests, freshBroker, noBroker}
 use Rattle.broker.specs.Lender.{logTest, brokerFault}
 use Rattle.broker.specs.Lent.{buildFor}
 use Rattle.market.specs.declared.order.OrderEvent.{OrderEvent}
@@ -85,32 +86,38 @@ first-drawn : (n f : ℕ) → unlessDrawn n f n ≡ 0 → (n ≡ 0) × (f ≡ 0)
 first-drawn zero f e = (refl, e)
 first-drawn (suc n) f e = absurd (omega (arith, e))
 
-module _ (costs : TradeCosts) (first : List Quote) (l₀ : List Trade) where
+module _ (costs : TradeCosts) (lot : ℕ) (first : List Quote) (l₀ : List Trade) where
   -- at most 16 costs, each finite
   finite-none : (l : List BrokerCost) → All (λ c. isFinite c ≡ true) l → drawn (eachFinite l) ≡ 0
   unfolding drawn
   finite-none [] a = refl
   finite-none (c ∷ l) a = ap (λ b. drawn ((not b draws 2) ∷ eachFinite l)) (a .0) ∙ finite-none l (a .1)
 
-  costs-none : Buildable costs first → drawn (costTests (costs .count) (costsOf costs)) ≡ 0
-  unfolding drawn
-  costs-none d = ap (λ b. drawn ((b draws 14) ∷ eachFinite (costsOf costs))) (le-ltb 16 (costs .count) (d .few)) ∙ finite-none (costsOf costs) (d .each-finite)
+  -- a lot of 1 to 1,000,000
+  lot-sound : (1 ≤ lot) × (lot ≤ 1000000) → isLot lot ≡ true
+  lot-sound h = ap₂ _&&_ (le-leb 1 lot (h .0)) (le-leb lot 1000000 (h .1))
 
-  draws-none : drawn (costTests (costs .count) (costsOf costs)) ≡ 0 → drawn (tableTests 0 first) ≡ 0 → buildFor costs first l₀ .fault ≡ 0
+  builder-none : Buildable costs lot first → drawn (builderTests (costs .count) lot (costsOf costs)) ≡ 0
+  unfolding drawn
+  builder-none d =
+      ap₂ (λ x y. drawn ((x draws 14) ∷ (not y draws 17) ∷ eachFinite (costsOf costs))) (le-ltb 16 (costs .count) (d .few)) (lot-sound (d .lot-size))
+      ∙ finite-none (costsOf costs) (d .each-finite)
+
+  draws-none : drawn (builderTests (costs .count) lot (costsOf costs)) ≡ 0 → drawn (tableTests 0 first) ≡ 0 → buildFor costs lot first l₀ .fault ≡ 0
   unfolding buildOf
   draws-none c t = ap (λ n. unlessDrawn n (tableOf first .fault) n) c ∙ table-fault first ∙ t
 
-  build-table : buildFor costs first l₀ .fault ≡ 0 → drawn (tableTests 0 first) ≡ 0
+  build-table : buildFor costs lot first l₀ .fault ≡ 0 → drawn (tableTests 0 first) ≡ 0
   unfolding buildOf
-  build-table e = sym (table-fault first) ∙ first-drawn (drawn (costTests (costs .count) (costsOf costs))) (tableOf first .fault) e .1
+  build-table e = sym (table-fault first) ∙ first-drawn (drawn (builderTests (costs .count) lot (costsOf costs))) (tableOf first .fault) e .1
 
-  built-broker : buildFor costs first l₀ .fault ≡ 0 → buildFor costs first l₀ .broker ≡ freshBroker costs (tableOf first) (length l₀)
+  built-broker : buildFor costs lot first l₀ .fault ≡ 0 → buildFor costs lot first l₀ .broker ≡ freshBroker costs lot (tableOf first) (length l₀)
   unfolding buildOf
-  built-broker e = ap (λ n. unlessDrawn n (freshBroker costs (tableOf first) (length l₀)) noBroker) e
+  built-broker e = ap (λ n. unlessDrawn n (freshBroker costs lot (tableOf first) (length l₀)) noBroker) e
 
-  pub fresh-meets : drawn (tableTests 0 first) ≡ 0 → Meets l₀ (record { broker = freshBroker costs (tableOf first) (length l₀); log = l₀ }) (start (costsOf costs) first (length l₀))
+  pub fresh-meets : isLot lot ≡ true → drawn (tableTests 0 first) ≡ 0 → Meets l₀ (record { broker = freshBroker costs lot (tableOf first) (length l₀); log = l₀ }) (start (costsOf costs) lot first (length l₀))
   unfolding fresh noFunds start
-  fresh-meets d =
+  fresh-meets s d =
       record {
         stands = record {
           books = record {
@@ -126,19 +133,20 @@ module _ (costs : TradeCosts) (first : List Quote) (l₀ : List Trade) where
             fit = record { traded = omega arith; room-left = omega arith; places = omega arith };
           };
           money =
-              ap (λ r. record { costs = costsOf costs; latest = r; failed = false; cash = zero64; held = heldAt (replicate 256 zero64); pending = pendingAt (replicate 256 false) (replicate 256 zero64) }) (first-rows first d)
-              ∙ ap₂ (λ x y. record { costs = costsOf costs; latest = Rattle.ledger.specs.Ledger.start (costsOf costs) first (length l₀) .money .latest; failed = false; cash = zero64; held = x; pending = y })
+              ap (λ r. record { costs = costsOf costs; lot = lot; latest = r; failed = false; cash = zero64; held = heldAt (replicate 256 zero64); pending = pendingAt (replicate 256 false) (replicate 256 zero64) }) (first-rows first d)
+              ∙ ap₂ (λ x y. record { costs = costsOf costs; lot = lot; latest = Rattle.ledger.specs.Ledger.start (costsOf costs) lot first (length l₀) .money .latest; failed = false; cash = zero64; held = x; pending = y })
               (fun-ext (λ n. none-held n (ltb n 256) refl)) (fun-ext (λ n. none-pending n (ltb n 256) refl));
           wide = record { holding = length-replicate 256 zero64; pending = length-replicate 256 zero64; awaited = length-replicate 256 false };
           present = table-present-length first;
           rows = table-rows-length first;
+          lot = s;
         };
         room-is = refl;
         log = refl;
       }
 
-  built-meets : buildFor costs first l₀ .fault ≡ 0 → Meets l₀ (built costs first l₀) (start (costsOf costs) first (length l₀))
-  built-meets e = subst (λ b. Meets l₀ (record { broker = b; log = l₀ }) (start (costsOf costs) first (length l₀))) (sym (built-broker e)) (fresh-meets (build-table e))
+  built-meets : isLot lot ≡ true → buildFor costs lot first l₀ .fault ≡ 0 → Meets l₀ (built costs lot first l₀) (start (costsOf costs) lot first (length l₀))
+  built-meets s e = subst (λ b. Meets l₀ (record { broker = b; log = l₀ }) (start (costsOf costs) lot first (length l₀))) (sym (built-broker e)) (fresh-meets s (build-table e))
 
 -- ---- the ledger has the claim
 
@@ -201,29 +209,30 @@ ledger-runs L z =
 
 -- ---- demand 3: any builder's arguments that 01's conditions hold of, a log of any length that a slice has, every list of calls, refused ones included
 
-pub demand-3 : (costs : TradeCosts) (first : List Quote) (l₀ : List Trade) → Buildable costs first → length l₀ < 2 ^ 64 → (cs : List Call) → Demand3 costs first l₀ cs
+pub demand-3 : (costs : TradeCosts) (lot : ℕ) (first : List Quote) (l₀ : List Trade) → Buildable costs lot first → length l₀ < 2 ^ 64 → (cs : List Call) → Demand3 costs lot first l₀ cs
 unfolding start
-demand-3 costs first l₀ d h cs =
-    let e = draws-none costs first l₀ (costs-none costs first l₀ d) (d .table) in
-    let L = start (costsOf costs) first (length l₀) in
-    let m = run-meets l₀ h (built costs first l₀) L cs (built-meets costs first l₀ e) in
+demand-3 costs lot first l₀ d h cs =
+    let e = draws-none costs lot first l₀ (builder-none costs lot first l₀ d) (d .table) in
+    let L = start (costsOf costs) lot first (length l₀) in
+    let s = built-meets costs lot first l₀ (lot-sound costs lot first l₀ (d .lot-size)) e in
+    let m = run-meets l₀ h (built costs lot first l₀) L cs s in
     let trades = Ledger.run L cs .orders .trades in
     record {
       lived = Lives.lived brokerCalls (λ past c. takes (Ledger.run L past) c) (λ xs. Ledger.run L xs .orders) (ledger-runs L refl) cs;
-      answered = run-answers l₀ h (built costs first l₀) L cs (built-meets costs first l₀ e);
+      answered = run-answers l₀ h (built costs lot first l₀) L cs s;
       compared = record {
         log = m .log;
         logged =
-            ap (take (Program.run (built costs first l₀) cs .broker .exchange .counts .logged)) (m .log)
-            ∙ take-over trades l₀ (Program.run (built costs first l₀) cs .broker .exchange .counts .logged) (sym (m .stands .books .logged-is));
-        sound = no-sixteen l₀ h (Program.run (built costs first l₀) cs) (Ledger.run L cs) m;
-        sound-alone = no-sixteen-alone l₀ h (Program.run (built costs first l₀) cs) (Ledger.run L cs) m;
+            ap (take (Program.run (built costs lot first l₀) cs .broker .exchange .counts .logged)) (m .log)
+            ∙ take-over trades l₀ (Program.run (built costs lot first l₀) cs .broker .exchange .counts .logged) (sym (m .stands .books .logged-is));
+        sound = no-sixteen l₀ h (Program.run (built costs lot first l₀) cs) (Ledger.run L cs) m;
+        sound-alone = no-sixteen-alone l₀ h (Program.run (built costs lot first l₀) cs) (Ledger.run L cs) m;
         resting = m .stands .books .rest;
         waiting = m .stands .books .wait;
         money = m .stands .money;
         basis = λ n.
             ap (λ l. costBasis l n)
-            (ap (take (Program.run (built costs first l₀) cs .broker .exchange .counts .logged)) (m .log)
-            ∙ take-over trades l₀ (Program.run (built costs first l₀) cs .broker .exchange .counts .logged) (sym (m .stands .books .logged-is)));
+            (ap (take (Program.run (built costs lot first l₀) cs .broker .exchange .counts .logged)) (m .log)
+            ∙ take-over trades l₀ (Program.run (built costs lot first l₀) cs .broker .exchange .counts .logged) (sym (m .stands .books .logged-is)));
       };
     }

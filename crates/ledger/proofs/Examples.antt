@@ -1,6 +1,7 @@
--- The examples of document 01, proved by computing. Assumes nothing.
+-- The examples of document 01, and two of them with a lot of 5, proved by computing. Assumes nothing.
 use mathlib.Core.Path.{refl}
 use lib.Ieee as Ieee
+use Rattle.floats.specs.Lots.{lotOf, lotShares}
 use Rattle.floats.specs.Whole.{floorOf, ceilOf}
 use Rattle.market.specs.Faults.{drawn}
 use Rattle.market.specs.Quotes.{emptyTable}
@@ -18,8 +19,12 @@ use Rattle.portfolio.specs.State.{noFunds}
 use Rattle.broker.specs.Send.{sendOf, sentOne, eventFor}
 use Rattle.broker.specs.Cash.{cashMoved, withdrawOf}
 use Rattle.broker.specs.Liquidate.{liquidateOf, liquidatedBy}
-use Rattle.ledger.specs.Examples.{Examples}
+use Rattle.ledger.specs.Examples.{Examples, LotExample}
 
 pub examples : Examples
-unfolding Ieee.le Ieee.ofInt Ieee.sub Ieee.mul Ieee.div Ieee.ofBits floorOf ceilOf drawn emptyTable tradeOn tradeImpact tradeImpactTotal costsOf noCosts withCost fresh insertOf ticked tickOf symbols liquidationValue salesFrom salesFor sharesFor orderFor wanted planOf basisStep costBasis noFunds sendOf sentOne eventFor cashMoved withdrawOf liquidateOf liquidatedBy
+unfolding Ieee.le Ieee.ofInt Ieee.sub Ieee.mul Ieee.div Ieee.ofBits floorOf ceilOf lotShares drawn emptyTable tradeOn tradeImpact tradeImpactTotal costsOf noCosts withCost fresh insertOf ticked tickOf symbols liquidationValue salesFrom salesFor sharesFor orderFor wanted planOf basisStep costBasis noFunds sendOf sentOne eventFor cashMoved withdrawOf liquidateOf liquidatedBy
 examples other = (refl, (refl, (refl, (refl, (refl, (refl, (refl, (refl, (refl, (refl, (refl, (refl, (refl, (refl, _))))))))))))))
+
+pub lot-example : LotExample
+unfolding Ieee.le Ieee.ofInt Ieee.sub Ieee.mul Ieee.div Ieee.ofBits lotOf lotShares drawn emptyTable tradeImpact tradeImpactTotal costsOf noCosts withCost fresh symbols liquidationValue sharesFor orderFor wanted planOf noFunds
+lot-example other = (refl, (refl, _))

@@ -1,7 +1,7 @@
 -- A broker stands for a ledger: the relation, and that sends, insertions, deletions, cash and liquidations keep it and answer alike. Assumes nothing.
 use Prim.Native.Nat.{ℕ, zero, suc, _+_, _<_}
 use native.Mathlib.Omega.{arith}
-use mathlib.Core.Bool.{Bool, true, false, cond}
+use mathlib.Core.Bool.{Bool, true, false, not, cond, _||_}
 use mathlib.Core.Path.{_≡_, refl, _∙_, sym, ap, ap₂, subst}
 use mathlib.Core.List.{List, [], _∷_, _++_}
 use mathlib.Core.Option.{Option, none, some}
@@ -15,6 +15,7 @@ use Rattle.market.specs.Orders.{eventOf, orderTests}
 use Rattle.market.specs.declared.order.Order.{Order}
 use Rattle.market.proofs.Faults.{order-numbered, append-none, none-drawn}
 use Rattle.orders.specs.Orders.{plain, restingIn, bookWidth, takeOn, erase}
+use Rattle.floats.specs.Lots.{isLot}
 use Rattle.exchange.specs.State.{brokenOf, roomOf}
 use Rattle.exchange.specs.Insert as Exchange
 use Rattle.exchange.specs.Insert.{joined, insertTests}
@@ -27,6 +28,7 @@ use Rattle.rules.specs.Sends.{sendTestsAt, sendTests}
 use Rattle.rules.specs.Liquidation.{salesFor, debitedBy}
 use Rattle.portfolio.specs.State.{moneyOf}
 use Rattle.broker.specs.Send as Send
+use Rattle.broker.specs.Lender.{broken}
 use Rattle.broker.specs.Send.{eventFor, takenBy, sentOne, sentAll, eventsOf}
 use Rattle.broker.specs.Cash as Cash
 use Rattle.portfolio.specs.Liquidate as Sales
@@ -42,11 +44,12 @@ pub record Stands (b : UistBroker) (L : Ledger) : Type 0 where
   pub wide : Wide (b .portfolio .funds)
   pub present : length (b .portfolio .latest .present) ≡ 256
   pub rows : length (b .portfolio .latest .rows) ≡ 256
+  pub lot : isLot (b .portfolio .lot) ≡ true
 
 module _ (b : UistBroker) (L : Ledger) (m : Stands b L) where
-  -- 16 is not drawn
-  pub unbroken : brokenOf (b .exchange .counts) ≡ false
-  unbroken =
+  -- 16 is not drawn, neither by the exchange nor by the broker
+  counts-hold : brokenOf (b .exchange .counts) ≡ false
+  counts-hold =
       let r = m .books in
       sound-not-broken {c = b .exchange .counts}
       (record {
@@ -55,6 +58,9 @@ module _ (b : UistBroker) (L : Ledger) (m : Stands b L) where
         numbers = omega (arith, r .given-is, r .taken-is);
         logs = omega (arith, r .logged-is, r .rest-count, r .wait-count, r .taken-is, r .fit .traded);
       })
+
+  pub unbroken : broken b ≡ false
+  unbroken = ap₂ (λ x y. x || not y) counts-hold (m .lot)
 
   -- the tests of room read the same
   rooms : roomOf (b .exchange .counts) ≡ roomTests L
@@ -96,6 +102,7 @@ module _ (b : UistBroker) (L : Ledger) (m : Stands b L) where
         wide = expecting-wide (b .portfolio .funds) o (m .wide);
         present = m .present;
         rows = m .rows;
+        lot = m .lot;
       }
 
   pub send-stands : (o : Order) → Stands (sentOne b o) (sending L o)
@@ -109,7 +116,7 @@ module _ (b : UistBroker) (L : Ledger) (m : Stands b L) where
   insert-number : (o : Order) → drawn (insertTests (b .exchange .counts) o) ≡ drawn (orderTests o ++ roomTests L)
   unfolding drawn
   insert-number o =
-      ap (λ t. drawn ((t draws 16) ∷ (orderTests o ++ roomOf (b .exchange .counts)))) unbroken
+      ap (λ t. drawn ((t draws 16) ∷ (orderTests o ++ roomOf (b .exchange .counts)))) counts-hold
       ∙ ap (λ l. drawn (orderTests o ++ l)) rooms
 
   inserted-by : (o : Order) (n : ℕ) → drawn (orderTests o ++ roomTests L) ≡ n →
@@ -117,28 +124,29 @@ module _ (b : UistBroker) (L : Ledger) (m : Stands b L) where
   inserted-by o (suc n) e = m
   inserted-by o zero e =
       let h = room-left (append-none (orderTests o) (roomTests L) (order-numbered o) e .1) in
-      record { books = books-take (b .exchange) (L .room) (L .orders) (m .books) o (h .0) (h .1); money = m .money; wide = m .wide; present = m .present; rows = m .rows }
+      record { books = books-take (b .exchange) (L .room) (L .orders) (m .books) o (h .0) (h .1); money = m .money; wide = m .wide; present = m .present; rows = m .rows; lot = m .lot }
 
   pub insert-stands : (o : Order) → Stands (Send.insertOf b o .broker) (inserting L o)
   unfolding Send.insertOf Exchange.insertOf inserting insertEvent
   insert-stands o =
-      subst (λ k. Stands (record { exchange = unlessDrawn k (joined (b .exchange) o) (b .exchange); portfolio = b .portfolio }) (unlessDrawn (drawn (orderTests o ++ roomTests L)) (withOrders L (takeOn (plain o) (L .orders))) L))
-      (sym (insert-number o)) (inserted-by o (drawn (orderTests o ++ roomTests L)) refl)
+      rw unbroken
+      (subst (λ k. Stands (record { exchange = unlessDrawn k (joined (b .exchange) o) (b .exchange); portfolio = b .portfolio }) (unlessDrawn (drawn (orderTests o ++ roomTests L)) (withOrders L (takeOn (plain o) (L .orders))) L))
+      (sym (insert-number o)) (inserted-by o (drawn (orderTests o ++ roomTests L)) refl))
 
   pub insert-event : (o : Order) → Send.insertOf b o .event ≡ insertEvent L o
   unfolding Send.insertOf Exchange.insertOf insertEvent
-  insert-event o = ap (eventOf o) (insert-number o)
+  insert-event o = rw unbroken (ap (eventOf o) (insert-number o))
 
   -- ---- a deletion
 
   pub delete-stands : (n : ℕ) → Stands (Send.deleteOf b n .broker) (withOrders L (erase n (L .orders)))
   unfolding Send.deleteOf Deletion.deleteOf drawn
   delete-stands n =
-      rw unbroken (record { books = books-delete (b .exchange) (L .room) (L .orders) (m .books) n; money = m .money; wide = m .wide; present = m .present; rows = m .rows })
+      rw (unbroken, counts-hold) (record { books = books-delete (b .exchange) (L .room) (L .orders) (m .books) n; money = m .money; wide = m .wide; present = m .present; rows = m .rows; lot = m .lot })
 
   pub delete-number : (n : ℕ) → Send.deleteOf b n .fault ≡ 0
   unfolding Send.deleteOf Deletion.deleteOf drawn
-  delete-number n = rw unbroken
+  delete-number n = rw (unbroken, counts-hold)
 
   -- ---- cash
 
@@ -150,6 +158,7 @@ module _ (b : UistBroker) (L : Ledger) (m : Stands b L) where
         wide = record { holding = m .wide .holding; pending = m .wide .pending; awaited = m .wide .awaited };
         present = m .present;
         rows = m .rows;
+        lot = m .lot;
       }
 
   pub cash-same : Cash.cashOf b ≡ L .money .cash

@@ -67,10 +67,10 @@ pending-here a l s h = ap (λ t. cond t (pendingIf (getD a s false) (getD l s na
 -- ---- money with other funds
 
 abbrev pub withFunds : Portfolio → Funds → Portfolio
-withFunds p f = record { latest = p .latest; funds = f; costs = p .costs }
+withFunds p f = record { latest = p .latest; funds = f; costs = p .costs; lot = p .lot }
 
 abbrev moneyWith : Portfolio → (ℕ → Option Float) → (ℕ → Option Float) → Float → Bool → Money
-moneyWith p held pending cash failed = record { costs = moneyOf p .costs; latest = moneyOf p .latest; failed = failed; cash = cash; held = held; pending = pending }
+moneyWith p held pending cash failed = record { costs = moneyOf p .costs; lot = moneyOf p .lot; latest = moneyOf p .latest; failed = failed; cash = cash; held = held; pending = pending }
 
 -- ---- a sent order
 

@@ -17,10 +17,10 @@ use Rattle.ledger.specs.Program as Program
 use Rattle.ledger.specs.Program.{Held, built}
 use Rattle.ledger.specs.Demand.{brokerCalls, ordersAfter, takesAfter}
 
-module _ (costs : TradeCosts) (first : List Quote) (l₀ : List Trade) where
+module _ (costs : TradeCosts) (lot : ℕ) (first : List Quote) (l₀ : List Trade) where
   -- the program after a list of calls: its book, and the rows of its log from the first to the newest
   abbrev pub heldAfter : List Call → Held
-  heldAfter cs = Program.run (built costs first l₀) cs
+  heldAfter cs = Program.run (built costs lot first l₀) cs
 
   abbrev pub bookAfter : List Call → UistV1
   bookAfter cs = heldAfter cs .broker .exchange
@@ -33,13 +33,13 @@ module _ (costs : TradeCosts) (first : List Quote) (l₀ : List Trade) where
     -- the rows that the call adds to the log are trades of orders that earlier calls had booked
     pub added : List Trade
     pub log-grows : rowsAfter (past ++ (c ∷ [])) ≡ rowsAfter past ++ added
-    pub of-booked : (x : Trade) → Within x added → TradeOfBooked brokerCalls (takesAfter costs first (length l₀)) (ordersAfter costs first (length l₀)) past c x
+    pub of-booked : (x : Trade) → Within x added → TradeOfBooked brokerCalls (takesAfter costs lot first (length l₀)) (ordersAfter costs lot first (length l₀)) past c x
     -- what the call took waits after it
-    pub taken-waits : (w : Taken) → Within w (takesAfter costs first (length l₀) past c) → Within (w .order) (waitingOf (bookAfter (past ++ (c ∷ []))))
+    pub taken-waits : (w : Taken) → Within w (takesAfter costs lot first (length l₀) past c) → Within (w .order) (waitingOf (bookAfter (past ++ (c ∷ []))))
     -- what the call booked rests after it, under its number
-    pub booked-rests : (n : ℕ) → BookedBy brokerCalls (takesAfter costs first (length l₀)) (ordersAfter costs first (length l₀)) past c n →
+    pub booked-rests : (n : ℕ) → BookedBy brokerCalls (takesAfter costs lot first (length l₀)) (ordersAfter costs lot first (length l₀)) past c n →
         (b : Booked) × (b .id ≡ n) × Within b (restingOf (bookAfter (past ++ (c ∷ []))))
 
   -- the rows of the log and the orders that have traded match one to one
   abbrev pub NoTwoRows : List Call → Type 0
-  NoTwoRows cs = OneRowEach (rowsAfter cs) (ordersAfter costs first (length l₀) cs .booked)
+  NoTwoRows cs = OneRowEach (rowsAfter cs) (ordersAfter costs lot first (length l₀) cs .booked)

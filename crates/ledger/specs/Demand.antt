@@ -94,9 +94,10 @@ takes L c = unlessDrawn (drawn (callTests L c)) (takesActing L c) []
 abbrev pub brokerCalls : Calls
 brokerCalls = record { Call = Call; tradable = tradable; deletes = deletes }
 
--- the builder draws no number: at most 16 costs, each finite, and a first table that draws none
-pub record Buildable (costs : TradeCosts) (first : List Quote) : Type 0 where
+-- the builder draws no number: at most 16 costs, each finite, a lot of 1 to 1,000,000, and a first table that draws none
+pub record Buildable (costs : TradeCosts) (lot : ℕ) (first : List Quote) : Type 0 where
   pub few : costs .count ≤ 16
+  pub lot-size : (1 ≤ lot) × (lot ≤ 1000000)
   pub each-finite : All (λ c. isFinite c ≡ true) (costsOf costs)
   pub table : drawn (tableTests 0 first) ≡ 0
 
@@ -112,27 +113,27 @@ pub record Compared (l₀ : List Trade) (s : Held) (L : Ledger) : Type 0 where
   -- resting orders with their numbers, and waiting ones
   pub resting : restingOf (s .broker .exchange) ≡ restingFrom 0 (L .orders .booked)
   pub waiting : waitingOf (s .broker .exchange) ≡ ordersOf (L .orders .waiting)
-  -- costs, latest quotes, Failed, cash, holdings and pending quantities
+  -- costs, the lot, latest quotes, Failed, cash, holdings and pending quantities
   pub money : moneyOf (s .broker .portfolio) ≡ L .money
   -- cost basis, from the log's first row to its newest
   pub basis : (n : ℕ) → costBasis (take (s .broker .exchange .counts .logged) (s .log)) n ≡ costBasis (L .orders .trades) n
 
-abbrev pub ledgerAfter : TradeCosts → List Quote → ℕ → List Call → Ledger
-ledgerAfter costs first room cs = Ledger.run (start (costsOf costs) first room) cs
+abbrev pub ledgerAfter : TradeCosts → ℕ → List Quote → ℕ → List Call → Ledger
+ledgerAfter costs lot first room cs = Ledger.run (start (costsOf costs) lot first room) cs
 
-abbrev pub ordersAfter : TradeCosts → List Quote → ℕ → List Call → Orders
-ordersAfter costs first room cs = ledgerAfter costs first room cs .orders
+abbrev pub ordersAfter : TradeCosts → ℕ → List Quote → ℕ → List Call → Orders
+ordersAfter costs lot first room cs = ledgerAfter costs lot first room cs .orders
 
 -- the orders that a call takes after the calls before it
-abbrev pub takesAfter : TradeCosts → List Quote → ℕ → List Call → Call → List Taken
-takesAfter costs first room past c = takes (ledgerAfter costs first room past) c
+abbrev pub takesAfter : TradeCosts → ℕ → List Quote → ℕ → List Call → Call → List Taken
+takesAfter costs lot first room past c = takes (ledgerAfter costs lot first room past) c
 
-pub record Demand3 (costs : TradeCosts) (first : List Quote) (l₀ : List Trade) (cs : List Call) : Type 0 where
+pub record Demand3 (costs : TradeCosts) (lot : ℕ) (first : List Quote) (l₀ : List Trade) (cs : List Call) : Type 0 where
   -- an order taken waits until the next unrefused check, which books it; it has traded exactly when some unrefused check, later than the one that booked it,
   -- had a tradable row for its symbol that met its rule, the order not having been deleted before; once, in the first such check, at that row;
   -- the logged rows are these trades, check by check, in book order
-  pub lived : Lived brokerCalls (takesAfter costs first (length l₀)) (ordersAfter costs first (length l₀)) cs
+  pub lived : Lived brokerCalls (takesAfter costs lot first (length l₀)) (ordersAfter costs lot first (length l₀)) cs
   -- every answer and event but the free count
-  pub answered : Program.answers (built costs first l₀) cs ≡ Ledger.answers (start (costsOf costs) first (length l₀)) cs
+  pub answered : Program.answers (built costs lot first l₀) cs ≡ Ledger.answers (start (costsOf costs) lot first (length l₀)) cs
   -- the state
-  pub compared : Compared l₀ (Program.run (built costs first l₀) cs) (ledgerAfter costs first (length l₀) cs)
+  pub compared : Compared l₀ (Program.run (built costs lot first l₀) cs) (ledgerAfter costs lot first (length l₀) cs)

@@ -60,7 +60,7 @@ num n = Ieee.ofInt binary64 (pos n)
 abbrev pub halves : ℕ → Float
 halves n = Ieee.round binary64 false n 2
 
--- ---- what the examples start from: a fresh broker or exchange for a log of 8 rows. Symbols are 1, 2, 3, and an order whose shares 01 does not name has 1 share
+-- ---- what the examples start from: a fresh broker or exchange for a log of 8 rows, lot 1 unless named. Symbols are 1, 2, 3, and an order whose shares 01 does not name has 1 share
 
 abbrev pub quote : ℕ → Float → Float → Quote
 quote s bid ask = record { symbol = s; bid = bid; ask = ask; date = pos 0 }
@@ -68,8 +68,11 @@ quote s bid ask = record { symbol = s; bid = bid; ask = ask; date = pos 0 }
 abbrev pub quoted : List Quote → Table
 quoted l = foldl putRow emptyTable l
 
+abbrev pub inLots : ℕ → TradeCosts → List Quote → ℕ → UistBroker
+inLots lot costs l cash = withCash (freshBroker costs lot (quoted l) 8) (num cash)
+
 abbrev pub broker : TradeCosts → List Quote → ℕ → UistBroker
-broker costs l cash = withCash (freshBroker costs (quoted l) 8) (num cash)
+broker = inLots 1
 
 abbrev pub holding : ℕ → ℕ → UistBroker → UistBroker
 holding s n b =
@@ -169,3 +172,15 @@ table other =
 -- the fourteen examples hold, whatever the other price
 abbrev pub Examples : Type 0
 Examples = (other : Float) → AllHold (table other)
+
+-- ---- document 02, request 1: examples 10 and 11 with lot 5
+
+abbrev pub lotTable : Float → List Example
+lotTable other =
+    -- 500 / 30 is 16.7, down to 15
+    example 10 (planned (inLots 5 noCosts (quote 1 other (num 30) ∷ []) 1000) (weight 1 (halves 1) ∷ [])) (planAs 0 (buy 1 15 ∷ [])) ∷
+    -- (5 - 10) / 100 is -0.05, down to -5: a sale of 5
+    example 11 (planned (inLots 5 (withCost noCosts (Flat (num 10))) (quote 1 other (num 100) ∷ []) 10) (weight 1 (halves 1) ∷ [])) (planAs 0 (sell 1 5 ∷ [])) ∷ []
+
+abbrev pub LotExample : Type 0
+LotExample = (other : Float) → AllHold (lotTable other)

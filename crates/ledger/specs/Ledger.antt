@@ -26,18 +26,18 @@ use Rattle.rules.specs.Weights.{Plan, planOf}
 use Rattle.market.specs.declared.order.OrderEvent.{OrderEvent}
 use Rattle.ledger.specs.Calls.{Call, deposit, withdraw, liquidate, send, sendList, insert, delete, check, update, Answer, fault, deposited, withdrawn, refused, event, events, traded, updated}
 
--- costs, latest quotes, cash, holdings, pending and Failed; the log length; its trades, and each order taken as waiting, resting, traded or deleted
+-- costs, the lot, latest quotes, cash, holdings, pending and Failed; the log length; its trades, and each order taken as waiting, resting, traded or deleted
 pub record Ledger : Type 0 where
   pub room : ℕ
   pub money : Money
   pub orders : Orders
 
 -- it starts as in section 4: the table's rows are the first latest quotes, Ready, cash 0.0, nothing held, pending, taken or logged
-unfoldable pub start : List BrokerCost → List Quote → ℕ → Ledger
-start costs t room =
+unfoldable pub start : List BrokerCost → ℕ → List Quote → ℕ → Ledger
+start costs lot t room =
     record {
       room = room;
-      money = record { costs = costs; latest = foldl fetchOne (λ n. none) t; failed = false; cash = zero64; held = λ n. none; pending = λ n. none };
+      money = record { costs = costs; lot = lot; latest = foldl fetchOne (λ n. none) t; failed = false; cash = zero64; held = λ n. none; pending = λ n. none };
       orders = noOrders;
     }
 

@@ -1,4 +1,5 @@
 -- The program over a list of calls, by its own definitions: each call finds the broker and the log as the last call left them. Definitions only.
+use Prim.Native.Nat.{ℕ}
 use mathlib.Core.List.{List, [], _∷_}
 use Rattle.market.specs.declared.quote.Quote.{Quote}
 use Rattle.market.specs.declared.trade.Trade.{Trade}
@@ -18,8 +19,8 @@ pub record Held : Type 0 where
   pub log : List Trade
 
 -- what the builder makes for a log
-abbrev pub built : TradeCosts → List Quote → List Trade → Held
-built costs first log = record { broker = buildFor costs first log .broker; log = log }
+abbrev pub built : TradeCosts → ℕ → List Quote → List Trade → Held
+built costs lot first log = record { broker = buildFor costs lot first log .broker; log = log }
 
 abbrev pub withBroker : Held → UistBroker → Held
 withBroker s b = record { broker = b; log = s .log }

@@ -11,9 +11,9 @@ use Rattle.lists.specs.Lists.{All}
 use Rattle.market.specs.Faults.{Test, drawn, unlessDrawn}
 use Rattle.market.specs.declared.trade.Trade.{Trade}
 use Rattle.market.proofs.Faults.{Numbered, drawn-append, none-drawn}
-use Rattle.exchange.specs.State.{brokenOf}
-use Rattle.exchange.proofs.Counting.{Sound, sound-facts}
-use Rattle.broker.specs.Lender.{lengthTest, logTest}
+use Rattle.exchange.proofs.Counting.{Sound}
+use Rattle.sender.proofs.Sounding.{counts-sound}
+use Rattle.broker.specs.Lender.{broken, lengthTest, logTest}
 use Rattle.broker.specs.declared.state.UistBroker.{UistBroker}
 
 -- ---- an answer by the number n
@@ -42,8 +42,8 @@ pub record Whole (b : UistBroker) (n : ℕ) : Type 0 where
 pub whole : (b : UistBroker) (n : ℕ) (l : List Test) → drawn (lengthTest b n ∷ l) ≡ 0 → Whole b n
 whole b n l e =
     let c = b .exchange .counts in
-    let t = or-false (eqb n (c .room)) (brokenOf c) (none-drawn _ 15 l e .0) in
-    record { same = eqb-true n (c .room) (t .0); sound = sound-facts c (t .1) }
+    let t = or-false (eqb n (c .room)) (broken b) (none-drawn _ 15 l e .0) in
+    record { same = eqb-true n (c .room) (t .0); sound = counts-sound c (b .portfolio .lot) (t .1) }
 
 -- the rows that are read then are the log's
 pub rows-fit : (b : UistBroker) (log : List Trade) (l : List Test) (m n : ℕ) → m ≡ drawn (logTest b log ∷ l) → n ≡ unlessDrawn m (b .exchange .counts .logged) 0 → n ≤ length log

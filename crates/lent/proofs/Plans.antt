@@ -22,7 +22,8 @@ use Rattle.orders.specs.Orders.{ofSide, sellsFirst}
 use Rattle.rules.specs.Amounts.{isZero}
 use Rattle.rules.specs.Money.{Money}
 use Rattle.rules.specs.Values.{liquidationValue}
-use Rattle.rules.specs.Weights.{orderFor, sharesFor, difference, wanted, planOf, Plan, planTests}
+use Rattle.costs.specs.declared.BrokerCost.{BrokerCost}
+use Rattle.rules.specs.Weights.{orderFor, ordersFor, ordersAt, rowOrders, thenRows, sharesFor, difference, wanted, planOf, Plan, planTests}
 use Rattle.portfolio.specs.State.{moneyOf}
 use Rattle.broker.specs.Lender.{broken, lenderTests}
 use Rattle.broker.specs.Walk.{walkFault, planBy, Walks}
@@ -84,18 +85,34 @@ order-few s x = by-test (isZero x) _
     by-test true o = omega arith
     by-test false o = omega arith
 
-row-few : (m : Money) (d : Float) (s : ℕ) (q : Option Quote) (z : Bool) (rest : List Order) (n : ℕ) → length rest ≤ n →
-    length (cond z [] (given q [] (λ k. orderFor s (sharesFor (m .costs) d k)) ++ rest)) ≤ suc n
-row-few m d s q true rest n h = omega arith
-row-few m d s none false rest n h = omega arith
-row-few m d s (some q) false rest n h =
-    omega (arith, length-append (orderFor s (sharesFor (m .costs) d q)) rest, order-few s (sharesFor (m .costs) d q))
+-- the orders, none where they are missing
+abbrev present : Option (List Order) → List Order
+present x = given x [] (λ l. l)
 
-wanted-few : (m : Money) (v : Float) (l : List Weight) → length (wanted m v l) ≤ length l
+shares-few : (s : ℕ) (x : Option Float) → length (present (ordersFor s x)) ≤ 1
+shares-few s none = omega arith
+shares-few s (some x) = order-few s x
+
+at-few : (lot : ℕ) (costs : List BrokerCost) (s : ℕ) (d : Float) (q : Option Quote) → length (present (ordersAt lot costs s d q)) ≤ 1
+at-few lot costs s d none = omega arith
+at-few lot costs s d (some q) = shares-few s (sharesFor lot costs d q)
+
+then-few : (x rest : Option (List Order)) (n : ℕ) → length (present x) ≤ 1 → length (present rest) ≤ n → length (present (thenRows x rest)) ≤ suc n
+then-few none rest n h k = omega arith
+then-few (some l) none n h k = omega arith
+then-few (some l) (some m) n h k = omega (arith, length-append l m)
+
+row-few : (z : Bool) (x : Option (List Order)) (n : ℕ) → length (present x) ≤ suc n → length (present (cond z (some []) x)) ≤ suc n
+row-few true x n h = omega arith
+row-few false x n h = h
+
+wanted-few : (m : Money) (v : Float) (l : List Weight) → length (present (wanted m v l)) ≤ length l
 unfolding wanted
 wanted-few m v [] = omega arith
 wanted-few m v (w ∷ l) =
-    row-few m (difference m v w) (w .symbol) (m .latest (w .symbol)) (isZero (difference m v w)) (wanted m v l) (length l) (wanted-few m v l)
+    let d = difference m v w in
+    row-few (isZero d) (thenRows (rowOrders m d w) (wanted m v l)) (length l)
+    (then-few (rowOrders m d w) (wanted m v l) (length l) (at-few (m .lot) (m .costs) (w .symbol) d (m .latest (w .symbol))) (wanted-few m v l))
 
 plan-by : (n : ℕ) (l : List Order) (k : ℕ) → length l ≤ k → length (unlessDrawn n (sellsFirst l) []) ≤ k
 plan-by zero l k h = omega (arith, length-append (ofSide true l) (ofSide false l), sides-few l)
@@ -105,7 +122,8 @@ plan-by (suc n) l k h = omega arith
 pub planned-few : (m : Money) (l : List Weight) → length (planOf m l .orders) ≤ length l
 unfolding planOf
 planned-few m l =
-    plan-by (drawn (planTests (liquidationValue m))) (wanted m (liquidationValue m) l) (length l) (wanted-few m (liquidationValue m) l)
+    let walk = wanted m (liquidationValue m) l in
+    plan-by (drawn (planTests (liquidationValue m) walk)) (present walk) (length l) (wanted-few m (liquidationValue m) l)
 
 -- ---- the walk alone
 

@@ -12,11 +12,11 @@ use Rattle.lent.proofs.UistRows.{uist-broker, trade-costs, built, order
 abbrev pub build : Contract
 build = record {
   n = 2;
-  ps = pV trade-costs ∷ pShrS (R quote) 0 tt ∷ pShrS (R trade) 1 tt ∷ [];
+  ps = pV trade-costs ∷ pNum w32 ∷ pShrS (R quote) 0 tt ∷ pShrS (R trade) 1 tt ∷ [];
   r = rV built;
   requires = false;
   Pre = λ κs a. Unit {0};
-  Post = λ κs a z e. z ≡ buildFor (a .0) (a .1 .0 .now) (a .1 .1 .0 .now);
+  Post = λ κs a z e. z ≡ buildFor (a .0) (a .1 .0) (a .1 .1 .0 .now) (a .1 .1 .1 .0 .now);
 }
 
 abbrev pub check : Contract

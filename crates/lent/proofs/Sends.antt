@@ -1,5 +1,6 @@
 -- The loop that sends a lent list of orders: what a turn keeps, and what the call answers. Assumes nothing.
 use Prim.Native.Nat.{ℕ, zero, suc, _+_, _<_, _≤_}
+use mathlib.Core.Bool.{false}
 use mathlib.Core.Path.{_≡_, refl, sym, _∙_, ap}
 use mathlib.Core.List.{List, [], _∷_, _++_}
 use native.Mathlib.Numerals.{add-one}
@@ -12,13 +13,12 @@ use Rattle.lists.proofs.Over.{over-more, length-over}
 use Rattle.market.specs.Faults.{drawn, unlessDrawn}
 use Rattle.market.specs.declared.order.Order.{Order}
 use Rattle.market.proofs.Faults.{none-drawn}
-use Rattle.exchange.proofs.Counting.{Sound, sound-facts, sound-not-broken}
 use Rattle.broker.specs.Send.{eventFor, sentOne, sentAll, eventsOf, sendOf}
 use Rattle.broker.specs.Lent.{sendListFault, sendListBroker, sendListEvents}
 use Rattle.broker.specs.declared.state.UistBroker.{UistBroker}
 use Rattle.market.specs.declared.order.OrderEvent.{OrderEvent}
 use Rattle.broker.specs.declared.send.Sent.{Sent}
-use Rattle.broker.proofs.Sending.{sent-sound}
+use Rattle.broker.proofs.Sending.{sent-unbroken}
 use Rattle.broker.specs.Lender.{broken, lenderTests}
 use Rattle.lent.specs.Answers.{AnswersSend}
 use Rattle.lent.specs.declared.uist.SendAnswer.{SendAnswer}
@@ -47,11 +47,11 @@ events-none : (b : UistBroker) → eventsOf b [] ≡ []
 unfolding eventsOf
 events-none b = refl
 
--- an order sent where the counts hold together
-module _ (b : UistBroker) (o : Order) (x : Sent) (is : x ≡ sendOf b o) (s : Sound (b .exchange .counts)) where
+-- an order sent to a broker that draws no 16
+module _ (b : UistBroker) (o : Order) (x : Sent) (is : x ≡ sendOf b o) (s : broken b ≡ false) where
   moved : sendOf b o ≡ record { broker = sentOne b o; event = eventFor b o }
   unfolding sendOf
-  moved = rw (sound-not-broken s)
+  moved = rw s
 
   pub moved-broker : x .broker ≡ sentOne b o
   moved-broker = ap (λ (y : Sent). y .broker) (is ∙ moved)
@@ -63,12 +63,12 @@ module _ (b : UistBroker) (o : Order) (x : Sent) (is : x ≡ sendOf b o) (s : So
 
 pub record Sends (start : UistBroker) (l : List Order) (e : List OrderEvent) (n : ℕ) (b : UistBroker) (events : List OrderEvent) (i : ℕ) : Type 0 where
   pub within : i ≤ n
-  pub sound : 0 < n → Sound (b .exchange .counts)
+  pub sound : 0 < n → broken b ≡ false
   pub broker : b ≡ sentAll start (take i l)
   pub told : events ≡ over (eventsOf start (take i l)) e
 
 module _ (start : UistBroker) (l : List Order) (e : List OrderEvent) (n : ℕ) where
-  pub sends-none : (0 < n → Sound (start .exchange .counts)) → Sends start l e n start e 0
+  pub sends-none : (0 < n → broken start ≡ false) → Sends start l e n start e 0
   sends-none s = record { within = omega arith; sound = s; broker = refl; told = ap (λ (z : List OrderEvent). over z e) (sym (events-none start)) }
 
   module _ (fits : n ≤ length l) (room : n ≤ length e) (b : UistBroker) (events : List OrderEvent) (i : ℕ) (v : Sends start l e n b events i) where
@@ -93,7 +93,7 @@ module _ (start : UistBroker) (l : List Order) (e : List OrderEvent) (n : ℕ) w
         ∙ ap (λ (z : List OrderEvent). eventsOf start (take i l) ++ z) (events-one (sentAll start (take i l)) o ∙ ap (λ (k : OrderEvent). k ∷ []) (sym event)) in
         record {
           within = omega arith;
-          sound = λ z. rw here (sent-sound b o s);
+          sound = λ z. rw here (sent-unbroken b o s);
           broker = here ∙ ap (λ (k : UistBroker). sentOne k o) (v .broker) ∙ sym (ap (sentAll start) next ∙ sent-append start (take i l) (o ∷ []));
           told = ap (λ (z : List OrderEvent). set z i y) (v .told)
               ∙ over-more (eventsOf start (take i l)) e i y (sym told-long) (omega (arith, told-long))
@@ -103,11 +103,11 @@ module _ (start : UistBroker) (l : List Order) (e : List OrderEvent) (n : ℕ) w
 -- ---- the call
 
 module _ (b : UistBroker) (l : List Order) (e : List OrderEvent) (m n : ℕ) (is-m : m ≡ drawn (lenderTests b (length l) (length e))) (is-n : n ≡ unlessDrawn m (length l) 0) where
-  -- where no number is drawn the counts hold together, and there is a place for each event
-  lent : m ≡ 0 → Sound (b .exchange .counts) × (length l ≤ length e)
+  -- where no number is drawn there is no 16, and there is a place for each event
+  lent : m ≡ 0 → (broken b ≡ false) × (length l ≤ length e)
   lent z =
       let p = none-drawn (broken b) 15 _ (sym is-m ∙ z) in
-      (sound-facts (b .exchange .counts) (p .0), ltb-false (length e) (length l) (none-drawn _ 14 _ (p .1) .0))
+      (p .0, ltb-false (length e) (length l) (none-drawn _ 14 _ (p .1) .0))
 
   rows-by : (k : ℕ) → m ≡ k → n ≡ unlessDrawn k (length l) 0 → (n ≤ length l) × (n ≤ length e)
   rows-by zero z r = (omega arith, omega (arith, lent z .1))
@@ -116,11 +116,11 @@ module _ (b : UistBroker) (l : List Order) (e : List OrderEvent) (m n : ℕ) (is
   pub rows-sent : (n ≤ length l) × (n ≤ length e)
   rows-sent = rows-by m refl is-n
 
-  sound-by : (k : ℕ) → m ≡ k → n ≡ unlessDrawn k (length l) 0 → 0 < n → Sound (b .exchange .counts)
+  sound-by : (k : ℕ) → m ≡ k → n ≡ unlessDrawn k (length l) 0 → 0 < n → broken b ≡ false
   sound-by zero z r h = lent z .0
   sound-by (suc k) z r h = absurd (omega arith)
 
-  pub sound-sent : 0 < n → Sound (b .exchange .counts)
+  pub sound-sent : 0 < n → broken b ≡ false
   sound-sent = sound-by m refl is-n
 
   module _ (c : UistBroker) (events : List OrderEvent) (i : ℕ) (v : Sends b l e n c events i) (end : i ≡ n) where

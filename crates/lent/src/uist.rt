@@ -86,11 +86,11 @@ pub fn turnover(broker: UistBroker, log: &[Trade]) -> FloatRead
 }
 
 // A fresh broker for this log; the table's rows are the first latest quotes.
-pub fn build(costs: TradeCosts, first: &[Quote], log: &[Trade]) -> Built
-    ensures { λ r. ⌜ r ≡ buildFor costs (now (first .entry)) (now (log .entry)) ⌝ }
+pub fn build(costs: TradeCosts, lot: u32, first: &[Quote], log: &[Trade]) -> Built
+    ensures { λ r. ⌜ r ≡ buildFor costs lot (now (first .entry)) (now (log .entry)) ⌝ }
 {
     let t = read_table(first);
-    UistBroker::build(costs, t, log.len() as u64)
+    UistBroker::build(costs, lot, t, log.len() as u64)
 }
 
 // Ticks on the tradable quotes, takes the fetched ones and books the trades, which become the log's

@@ -106,9 +106,9 @@ length-blanks : length blanks ≡ 256
 unfolding noOrders
 length-blanks = length-replicate 256 blankOrder
 
--- the walk reads the latest quotes and the holdings; the costs may be any
-abbrev money : Table → Funds → TradeCosts → Money
-money latest funds costs = moneyOf (record { latest = latest; funds = funds; costs = costs })
+-- the walk reads the latest quotes and the holdings; the costs and the lot may be any
+abbrev money : Table → Funds → TradeCosts → ℕ → Money
+money latest funds costs lot = moneyOf (record { latest = latest; funds = funds; costs = costs; lot = lot })
 
 -- a position's value, as the code reads it
 abbrev pub worthAt : Table → Funds → ℕ → Float
@@ -122,7 +122,7 @@ pub record Selling (latest : Table) (funds : Funds) (amount : Float) (orders : L
   pub so-far : List Order
   pub counted : n ≡ length so-far
   pub placed : orders ≡ over so-far blanks
-  pub left : (costs : TradeCosts) → after so-far (salesFrom (money latest funds costs) (rest i) r) ≡ salesFrom (money latest funds costs) symbols amount
+  pub left : (costs : TradeCosts) (lot : ℕ) → after so-far (salesFrom (money latest funds costs lot) (rest i) r) ≡ salesFrom (money latest funds costs lot) symbols amount
 
 -- where the loop is left, with the last order if there is one
 pub record Stopped (latest : Table) (funds : Funds) (amount : Float) (orders : List Order) (n : ℕ) (part : Part) : Type 0 where
@@ -131,7 +131,7 @@ pub record Stopped (latest : Table) (funds : Funds) (amount : Float) (orders : L
   pub so-far : List Order
   pub counted : n ≡ length so-far
   pub placed : orders ≡ over so-far blanks
-  pub left : (costs : TradeCosts) → after so-far (partIn part) ≡ salesFrom (money latest funds costs) symbols amount
+  pub left : (costs : TradeCosts) (lot : ℕ) → after so-far (partIn part) ≡ salesFrom (money latest funds costs lot) symbols amount
 
 pub selling-starts : (latest : Table) (funds : Funds) (amount : Float) (orders : List Order) → orders ≡ blanks → Selling latest funds amount orders 0 amount 0
 selling-starts latest funds amount orders e =
@@ -141,7 +141,7 @@ selling-starts latest funds amount orders e =
       so-far = [];
       counted = refl;
       placed = e;
-      left = λ costs. ap (λ (l : List ℕ). salesFrom (money latest funds costs) l amount) rest-start;
+      left = λ costs lot. ap (λ (l : List ℕ). salesFrom (money latest funds costs lot) l amount) rest-start;
     }
 
 no-order : (b : Bool) (o : Order) → cond b (o ∷ []) [] ≡ [] → b ≡ true → ⊥
@@ -161,8 +161,8 @@ module _ {latest : Table} {funds : Funds} {amount : Float} {orders : List Order}
         so-far = v .so-far;
         counted = v .counted;
         placed = v .placed;
-        left = λ costs.
-            ap (after (v .so-far)) (e ∙ sym (sell-end (money latest funds costs) i r (omega (arith, v .within)))) ∙ v .left costs;
+        left = λ costs lot.
+            ap (after (v .so-far)) (e ∙ sym (sell-end (money latest funds costs lot) i r (omega (arith, v .within)))) ∙ v .left costs lot;
       }
 
   module _ (h : i < 256) where
@@ -170,14 +170,14 @@ module _ {latest : Table} {funds : Funds} {amount : Float} {orders : List Order}
     here = getD (funds .holding) i nan
 
     -- the whole walk, with the position at i apart
-    at-here : (costs : TradeCosts) → after (v .so-far) (salesFrom (money latest funds costs) (i ∷ rest (i + 1)) r) ≡ salesFrom (money latest funds costs) symbols amount
-    at-here costs = ap (λ (l : List ℕ). after (v .so-far) (salesFrom (money latest funds costs) l r)) (sym (rest-cons i h)) ∙ v .left costs
+    at-here : (costs : TradeCosts) (lot : ℕ) → after (v .so-far) (salesFrom (money latest funds costs lot) (i ∷ rest (i + 1)) r) ≡ salesFrom (money latest funds costs lot) symbols amount
+    at-here costs lot = ap (λ (l : List ℕ). after (v .so-far) (salesFrom (money latest funds costs lot) l r)) (sym (rest-cons i h)) ∙ v .left costs lot
 
-    held-by : (costs : TradeCosts) (b : Bool) → isZero here ≡ b → money latest funds costs .held i ≡ cond b none (some here)
-    held-by costs b z = held-at (funds .holding) i h ∙ ap (λ (c : Bool). cond c none (some here)) z
+    held-by : (costs : TradeCosts) (lot : ℕ) (b : Bool) → isZero here ≡ b → money latest funds costs lot .held i ≡ cond b none (some here)
+    held-by costs lot b z = held-at (funds .holding) i h ∙ ap (λ (c : Bool). cond c none (some here)) z
 
-    worth-by : (costs : TradeCosts) → worthAt latest funds i ≡ orZero (valueOf (money latest funds costs) i)
-    worth-by costs = ap₂ (λ (q : Option Quote) (x : Option Float). orZero (valueAt q x)) (sym (latest-at latest i h)) (sym (held-at (funds .holding) i h))
+    worth-by : (costs : TradeCosts) (lot : ℕ) → worthAt latest funds i ≡ orZero (valueOf (money latest funds costs lot) i)
+    worth-by costs lot = ap₂ (λ (q : Option Quote) (x : Option Float). orZero (valueAt q x)) (sym (latest-at latest i h)) (sym (held-at (funds .holding) i h))
 
     -- nothing held: the position is passed over
     pub passes : (orders′ : List Order) (n′ : ℕ) (r′ : Float) → isZero here ≡ true → orders′ ≡ orders → n′ ≡ n → r′ ≡ r → Selling latest funds amount orders′ n′ r′ (i + 1)
@@ -188,11 +188,11 @@ module _ {latest : Table} {funds : Funds} {amount : Float} {orders : List Order}
           so-far = v .so-far;
           counted = en ∙ v .counted;
           placed = eo ∙ v .placed;
-          left = λ costs.
-              let m = money latest funds costs in
+          left = λ costs lot.
+              let m = money latest funds costs lot in
               ap (λ (x : Float). after (v .so-far) (salesFrom m (rest (i + 1)) x)) er
-              ∙ ap (after (v .so-far)) (sym (sell-past m i (rest (i + 1)) r (held-by costs true z)))
-              ∙ at-here costs;
+              ∙ ap (after (v .so-far)) (sym (sell-past m i (rest (i + 1)) r (held-by costs lot true z)))
+              ∙ at-here costs lot;
         }
 
     -- a value at or below the rest is sold whole and subtracted
@@ -207,12 +207,12 @@ module _ {latest : Table} {funds : Funds} {amount : Float} {orders : List Order}
           so-far = v .so-far ++ (o ∷ []);
           counted = en ∙ ap (λ (k : ℕ). k + 1) (v .counted) ∙ sym (length-append (v .so-far) (o ∷ []));
           placed = eo ∙ ap (λ (l : List Order). set l n o) (v .placed) ∙ over-more (v .so-far) blanks n o (v .counted) low;
-          left = λ costs.
-              let m = money latest funds costs in
+          left = λ costs lot.
+              let m = money latest funds costs lot in
               after-more (v .so-far) o (salesFrom m (rest (i + 1)) r′)
               ∙ ap₂ (λ (x : Order) (y : Float). after (v .so-far) (sales (x ∷ salesFrom m (rest (i + 1)) y .orders) (salesFrom m (rest (i + 1)) y .rest))) e er
-              ∙ ap (after (v .so-far)) (sym (sell-held m i (rest (i + 1)) r true here w (held-by costs false z) (ew ∙ worth-by costs) t))
-              ∙ at-here costs;
+              ∙ ap (after (v .so-far)) (sym (sell-held m i (rest (i + 1)) r true here w (held-by costs lot false z) (ew ∙ worth-by costs lot) t))
+              ∙ at-here costs lot;
         }
 
     -- the walk stops at the first position whose value is not
@@ -225,19 +225,19 @@ module _ {latest : Table} {funds : Funds} {amount : Float} {orders : List Order}
           so-far = v .so-far;
           counted = v .counted;
           placed = v .placed;
-          left = λ costs.
-              let m = money latest funds costs in
+          left = λ costs lot.
+              let m = money latest funds costs lot in
               ap (after (v .so-far))
               (e ∙ ap (λ (q : Option Quote). lastSale q i r) (sym (latest-at latest i h))
-              ∙ sym (sell-held m i (rest (i + 1)) r false here w (held-by costs false z) (ew ∙ worth-by costs) t))
-              ∙ at-here costs;
+              ∙ sym (sell-held m i (rest (i + 1)) r false here w (held-by costs lot false z) (ew ∙ worth-by costs lot) t))
+              ∙ at-here costs lot;
         }
 
 -- ---- the list that the loop leaves
 
-module _ {latest : Table} {funds : Funds} {amount : Float} {orders : List Order} {n : ℕ} {part : Part} (v : Stopped latest funds amount orders n part) (costs : TradeCosts) where
+module _ {latest : Table} {funds : Funds} {amount : Float} {orders : List Order} {n : ℕ} {part : Part} (v : Stopped latest funds amount orders n part) (costs : TradeCosts) (lot : ℕ) where
   pub sold-last : part .sells ≡ true →
-      soldIn (record { list = record { orders = set orders n (part .order); count = n + 1 }; rest = part .rest }) ≡ salesFrom (money latest funds costs) symbols amount
+      soldIn (record { list = record { orders = set orders n (part .order); count = n + 1 }; rest = part .rest }) ≡ salesFrom (money latest funds costs lot) symbols amount
   sold-last t =
       let k = v .so-far ++ (part .order ∷ []) in
       let low : length (v .so-far) < length blanks = omega (arith, v .counted, v .room t, length-blanks) in
@@ -246,16 +246,16 @@ module _ {latest : Table} {funds : Funds} {amount : Float} {orders : List Order}
       ∙ ap (λ (l : List Order). sales l (part .rest))
       (take-over k blanks (n + 1) (length-append (v .so-far) (part .order ∷ []) ∙ ap (λ (j : ℕ). j + 1) (sym (v .counted)))
       ∙ ap (λ (b : Bool). v .so-far ++ cond b (part .order ∷ []) []) (sym t))
-      ∙ v .left costs
+      ∙ v .left costs lot
 
   pub sold-whole : part .sells ≡ false →
-      soldIn (record { list = record { orders = orders; count = n }; rest = part .rest }) ≡ salesFrom (money latest funds costs) symbols amount
+      soldIn (record { list = record { orders = orders; count = n }; rest = part .rest }) ≡ salesFrom (money latest funds costs lot) symbols amount
   sold-whole t =
       ap (λ (l : List Order). sales l (part .rest))
       (ap (take n) (v .placed) ∙ take-over (v .so-far) blanks n (sym (v .counted))
       ∙ sym (append-nil (v .so-far))
       ∙ ap (λ (b : Bool). v .so-far ++ cond b (part .order ∷ []) []) (sym t))
-      ∙ v .left costs
+      ∙ v .left costs lot
 
 -- ---- the orders of a liquidation
 

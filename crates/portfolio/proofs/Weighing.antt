@@ -1,7 +1,7 @@
 -- The loops over weights and over lists of orders. Assumes nothing.
-use Prim.Native.Nat.{ℕ, suc, _+_, _%_, _≤_, _<_}
-use mathlib.Core.Path.{_≡_, refl, ap, sym, _∙_}
-use mathlib.Core.Bool.{Bool, true, false, cond, Bool·beq}
+use Prim.Native.Nat.{ℕ, zero, suc, _+_, _%_, _≤_, _<_}
+use mathlib.Core.Path.{_≡_, refl, ap, ap₂, sym, _∙_}
+use mathlib.Core.Bool.{Bool, true, false, not, cond, Bool·beq}
 use mathlib.Core.List.{List, [], _∷_, _++_, append-assoc, append-nil}
 use mathlib.Core.Option.{Option, none, some}
 use native.Mathlib.Omega.{arith}
@@ -28,22 +28,23 @@ use Rattle.costs.specs.Costs.{tradeImpactTotal}
 use Rattle.costs.specs.Kept.{costsOf}
 use Rattle.costs.specs.declared.BrokerCost.{BrokerCost}
 use Rattle.costs.specs.declared.Impact.{Impact}
-use Rattle.floats.specs.Whole.{floorOf}
+use Rattle.floats.specs.Lots.{lotShares}
 use Rattle.orders.specs.Orders.{ofSide, sellsFirst}
 use Rattle.orders.proofs.Sides.{sides}
 use Rattle.rules.specs.Amounts.{minus, times, divided, negated, below, isZero, size}
 use Rattle.rules.specs.Money.{Money, orZero, unlessZero}
 use Rattle.rules.specs.Values.{valueAt, valueOf, liquidationValue}
 use Rattle.market.specs.Faults.{_draws_, drawn}
-use Rattle.rules.specs.Weights.{sharesFor, orderFor, difference, wanted, planOf, Plan, planAs}
+use Rattle.rules.specs.Weights.{negatedShares, sharesFor, orderFor, ordersFor, ordersAt, rowOrders, thenRows, difference, wanted, planOf, Plan, planAs, planTests}
 use Rattle.portfolio.specs.State.{moneyOf, amountIn}
 use Rattle.portfolio.specs.Lists.{listed, noOrders}
-use Rattle.portfolio.specs.Weigh.{orderIn, ontoOf}
+use Rattle.portfolio.specs.Weigh.{orderIn, wantedIn, ontoOf}
 use Rattle.portfolio.specs.declared.list.OrderList.{OrderList}
 use Rattle.portfolio.specs.declared.state.Portfolio.{Portfolio}
 use Rattle.portfolio.specs.declared.value.Amount.{Amount}
 use Rattle.portfolio.specs.declared.weigh.Wanted.{Wanted}
-use Rattle.portfolio.specs.declared.weigh.Wanted.the-variants.{Listed, Nothing}
+use Rattle.portfolio.specs.declared.weigh.WantedList.{WantedList}
+use Rattle.portfolio.specs.declared.weigh.Wanted.the-variants.{Listed, Nothing, Beyond}
 
 -- what a read past the end of an array gives; no code reads there
 abbrev pub noOrder : Order
@@ -51,27 +52,27 @@ noOrder = record { kind = MarketSell; priced = false; symbol = 0; shares = nan; 
 
 -- ---- shares and the order that they come to
 
-module _ (costs : List BrokerCost) (d : Float) (q : Quote) (net : Impact) (x : Float) where
-  pub shares-sold : below d zero64 ≡ true → net ≡ tradeImpactTotal costs (negated d) (q .bid) false → x ≡ floorOf (divided (net .budget) (net .price)) →
-      negated x ≡ sharesFor costs d q
+module _ (lot : ℕ) (costs : List BrokerCost) (d : Float) (q : Quote) (net : Impact) (x : Option Float) where
+  pub shares-sold : below d zero64 ≡ true → net ≡ tradeImpactTotal costs (negated d) (q .bid) false → x ≡ lotShares lot (divided (net .budget) (net .price)) →
+      negatedShares x ≡ sharesFor lot costs d q
   unfolding sharesFor
-  shares-sold t e f = rw (t, ← e) (ap negated f)
+  shares-sold t e f = rw (t, ← e) (ap negatedShares f)
 
-  pub shares-bought : below d zero64 ≡ false → net ≡ tradeImpactTotal costs d (q .ask) true → x ≡ floorOf (divided (net .budget) (net .price)) →
-      x ≡ sharesFor costs d q
+  pub shares-bought : below d zero64 ≡ false → net ≡ tradeImpactTotal costs d (q .ask) true → x ≡ lotShares lot (divided (net .budget) (net .price)) →
+      x ≡ sharesFor lot costs d q
   unfolding sharesFor
   shares-bought t e f = rw (t, ← e) f
 
 module _ (s : ℕ) (x : Float) where
-  pub order-none : isZero x ≡ true → [] ≡ orderFor s x
+  pub order-none : isZero x ≡ true → some [] ≡ some (orderFor s x)
   unfolding orderFor
   order-none t = rw t
 
-  pub order-buys : isZero x ≡ false → below zero64 x ≡ true → (o : Order) → o ≡ marketOrder MarketBuy s x → o ∷ [] ≡ orderFor s x
+  pub order-buys : isZero x ≡ false → below zero64 x ≡ true → (o : Order) → o ≡ marketOrder MarketBuy s x → some (o ∷ []) ≡ some (orderFor s x)
   unfolding orderFor
   order-buys z t o e = rw (z, t, e)
 
-  pub order-sells : isZero x ≡ false → below zero64 x ≡ false → (y : Float) → y ≡ size x → (o : Order) → o ≡ marketOrder MarketSell s y → o ∷ [] ≡ orderFor s x
+  pub order-sells : isZero x ≡ false → below zero64 x ≡ false → (y : Float) → y ≡ size x → (o : Order) → o ≡ marketOrder MarketSell s y → some (o ∷ []) ≡ some (orderFor s x)
   unfolding orderFor
   order-sells z t y f o e = rw (z, t, e, f)
 
@@ -80,6 +81,14 @@ module _ (s : ℕ) (x : Float) where
 
   pub size-above : below x zero64 ≡ false → x ≡ size x
   size-above t = rw t
+
+-- what a row comes to, by whether its symbol is quoted
+module _ (lot : ℕ) (costs : List BrokerCost) (s : ℕ) (d : Float) (present : Bool) (q : Quote) where
+  pub unquoted : present ≡ false → some [] ≡ ordersAt lot costs s d (rowIf present q)
+  unquoted e = rw e
+
+  pub quoted : present ≡ true → ordersFor s (sharesFor lot costs d q) ≡ ordersAt lot costs s d (rowIf present q)
+  quoted e = rw e
 
 -- ---- what the walk reads at a weight's symbol
 
@@ -108,21 +117,33 @@ module _ (p : Portfolio) (s : ℕ) (present : Bool) (a : Amount) (x : Float) (r 
 -- ---- the walk: the orders so far, and those of the weights that are left, are the whole
 
 -- the orders of one weight
-abbrev ordersOf : Money → Float → Weight → List Order
-ordersOf m v w = given (m .latest (w .symbol)) [] (λ q. orderFor (w .symbol) (sharesFor (m .costs) (difference m v w) q))
+abbrev ordersOf : Money → Float → Weight → Option (List Order)
+ordersOf m v w = rowOrders m (difference m v w) w
 
 module _ (m : Money) (v : Float) (w : Weight) (l : List Weight) where
-  walk-ends : isZero (difference m v w) ≡ true → wanted m v (w ∷ l) ≡ []
+  walk-ends : isZero (difference m v w) ≡ true → wanted m v (w ∷ l) ≡ some []
   unfolding wanted
   walk-ends t = rw t
 
-  walk-goes : isZero (difference m v w) ≡ false → wanted m v (w ∷ l) ≡ ordersOf m v w ++ wanted m v l
+  walk-goes : isZero (difference m v w) ≡ false → wanted m v (w ∷ l) ≡ thenRows (ordersOf m v w) (wanted m v l)
   unfolding wanted
   walk-goes t = rw t
 
-wanted-none : (m : Money) (v : Float) → wanted m v [] ≡ []
+wanted-none : (m : Money) (v : Float) → wanted m v [] ≡ some []
 unfolding wanted
 wanted-none m v = refl
+
+-- rows behind rows
+pub then-all : (x : Option (List Order)) → thenRows (some []) x ≡ x
+then-all none = refl
+then-all (some l) = refl
+
+then-nil : (k : List Order) → thenRows (some k) (some []) ≡ some k
+then-nil k = ap (λ (l : List Order). some l) (append-nil k)
+
+then-more : (k l : List Order) (x : Option (List Order)) → thenRows (some (k ++ l)) x ≡ thenRows (some k) (thenRows (some l) x)
+then-more k l none = refl
+then-more k l (some m) = ap (λ (j : List Order). some j) (append-assoc k l m)
 
 -- the rows of weights that count
 abbrev pub counted : List Weight → ℕ → List Weight
@@ -132,20 +153,20 @@ pub record WalkAt (m : Money) (v : Float) (rows : List Weight) (count : ℕ) (li
   pub long : length (rows) ≡ 257
   pub wide : length (list .orders) ≡ 256
   pub few : n ≤ i
-  pub rest : take n (list .orders) ++ wanted m v (drop i (counted rows count)) ≡ wanted m v (counted rows count)
+  pub rest : thenRows (some (take n (list .orders))) (wanted m v (drop i (counted rows count))) ≡ wanted m v (counted rows count)
 
 module _ (m : Money) (v : Float) (rows : List Weight) (count : ℕ) (list : OrderList) (n i : ℕ) (a : WalkAt m v rows count list n i) where
   -- no order is left
-  walk-done : wanted m v (drop i (counted rows count)) ≡ [] → take n (list .orders) ≡ wanted m v (counted rows count)
-  walk-done e = sym (ap (λ (l : List Order). take n (list .orders) ++ l) e ∙ append-nil (take n (list .orders))) ∙ a .rest
+  walk-done : wanted m v (drop i (counted rows count)) ≡ some [] → some (take n (list .orders)) ≡ wanted m v (counted rows count)
+  walk-done e = sym (ap (thenRows (some (take n (list .orders)))) e ∙ then-nil (take n (list .orders))) ∙ a .rest
 
-  walk-end : length (counted rows count) ≤ i → take n (list .orders) ≡ wanted m v (counted rows count)
+  walk-end : length (counted rows count) ≤ i → some (take n (list .orders)) ≡ wanted m v (counted rows count)
   walk-end h = walk-done (ap (wanted m v) (drop-of-length-le (counted rows count) h) ∙ wanted-none m v)
 
-  pub walk-end-first : count ≤ i → take n (list .orders) ≡ wanted m v (counted rows count)
+  pub walk-end-first : count ≤ i → some (take n (list .orders)) ≡ wanted m v (counted rows count)
   walk-end-first h = walk-end (omega (arith, length-take (count) (take 256 (rows))))
 
-  pub walk-end-last : 256 ≤ i → take n (list .orders) ≡ wanted m v (counted rows count)
+  pub walk-end-last : 256 ≤ i → some (take n (list .orders)) ≡ wanted m v (counted rows count)
   walk-end-last h = walk-end (omega (arith, length-take (count) (take 256 (rows)), length-take 256 (rows)))
 
   module _ (h : i < 256) (k : i < count) where
@@ -158,13 +179,24 @@ module _ (m : Money) (v : Float) (rows : List Weight) (count : ℕ) (list : Orde
         drop-cons (counted rows count) i noWeight b
         ∙ ap (λ (w : Weight). w ∷ drop (suc i) (counted rows count)) (getD-take (count) (take 256 (rows)) i noWeight k ∙ getD-take 256 (rows) i noWeight h)
 
-    ends-at : isZero (difference m v here) ≡ true → take n (list .orders) ≡ wanted m v (counted rows count)
+    ends-at : isZero (difference m v here) ≡ true → some (take n (list .orders)) ≡ wanted m v (counted rows count)
     ends-at t = walk-done (ap (wanted m v) weight-first ∙ walk-ends m v here (drop (suc i) (counted rows count)) t)
 
-    goes-on : isZero (difference m v here) ≡ false → (list′ : OrderList) (n′ : ℕ) → length (list′ .orders) ≡ 256 → n′ ≤ i + 1 →
-        take n′ (list′ .orders) ≡ take n (list .orders) ++ ordersOf m v here → WalkAt m v rows count list′ n′ (i + 1)
-    goes-on t list′ n′ wide few e =
-        let later = wanted m v (drop (suc i) (counted rows count)) in
+    abbrev later : Option (List Order)
+    later = wanted m v (drop (suc i) (counted rows count))
+
+    -- the walk from here: this row's orders, then those of the rows behind it
+    from-here : isZero (difference m v here) ≡ false → thenRows (some (take n (list .orders))) (thenRows (ordersOf m v here) later) ≡ wanted m v (counted rows count)
+    from-here t =
+        ap (thenRows (some (take n (list .orders)))) (sym (ap (wanted m v) weight-first ∙ walk-goes m v here (drop (suc i) (counted rows count)) t)) ∙ a .rest
+
+    -- the lot does not round this row's quotient
+    breaks-off : isZero (difference m v here) ≡ false → ordersOf m v here ≡ none → none ≡ wanted m v (counted rows count)
+    breaks-off t e = sym (ap (λ (o : Option (List Order)). thenRows (some (take n (list .orders))) (thenRows o later)) e) ∙ from-here t
+
+    goes-on : isZero (difference m v here) ≡ false → (list′ : OrderList) (n′ : ℕ) (new : List Order) → length (list′ .orders) ≡ 256 → n′ ≤ i + 1 →
+        ordersOf m v here ≡ some new → take n′ (list′ .orders) ≡ take n (list .orders) ++ new → WalkAt m v rows count list′ n′ (i + 1)
+    goes-on t list′ n′ new wide few o e =
         let front = take n (list .orders) in
         record {
           long = a .long;
@@ -172,10 +204,10 @@ module _ (m : Money) (v : Float) (rows : List Weight) (count : ℕ) (list : Orde
           few = few;
           rest =
               rw (add-one i)
-              (ap (λ (l : List Order). l ++ later) e
-              ∙ append-assoc front (ordersOf m v here) later
-              ∙ ap (λ (l : List Order). front ++ l) (sym (ap (wanted m v) weight-first ∙ walk-goes m v here (drop (suc i) (counted rows count)) t))
-              ∙ a .rest);
+              (ap (λ (l : List Order). thenRows (some l) later) e
+              ∙ then-more front new later
+              ∙ ap (λ (x : Option (List Order)). thenRows (some front) (thenRows x later)) (sym o)
+              ∙ from-here t);
         }
 
 -- a turn, by what the code read
@@ -193,52 +225,39 @@ module _ (p : Portfolio) (v : Float) (rows : List Weight) (count : ℕ) (list : 
   zero-read : (b : Bool) → isZero (minus (times v (weight .weight)) x) ≡ b → isZero (difference (moneyOf p) v weight) ≡ b
   zero-read b e = sym (ap (λ (z : Float). isZero z) difference-read) ∙ e
 
-  pub walk-stops : isZero (minus (times v (weight .weight)) x) ≡ true → take n (list .orders) ≡ wanted (moneyOf p) v (counted rows count)
+  pub walk-stops : isZero (minus (times v (weight .weight)) x) ≡ true → some (take n (list .orders)) ≡ wanted (moneyOf p) v (counted rows count)
   walk-stops t = ends-at (moneyOf p) v rows count list n i a h k (zero-read true t)
 
-  module _ (f : isZero (minus (times v (weight .weight)) x) ≡ false) (list′ : OrderList) (n′ : ℕ) where
-    -- nothing is listed
-    same-list : ordersOf (moneyOf p) v weight ≡ [] → list′ ≡ list → n′ ≡ n → WalkAt (moneyOf p) v rows count list′ n′ (i + 1)
-    same-list e el en =
-        goes-on (moneyOf p) v rows count list n i a h k (zero-read false f) list′ n′ (ap (λ (l : OrderList). length (l .orders)) el ∙ a .wide)
-        (omega (arith, a .few))
-        (ap (λ (l : OrderList). take n′ (l .orders)) el
-        ∙ ap (λ (j : ℕ). take j (list .orders)) en
-        ∙ sym (append-nil (take n (list .orders)))
-        ∙ ap (λ (l : List Order). take n (list .orders) ++ l) (sym e))
+  module _ (f : isZero (minus (times v (weight .weight)) x) ≡ false) (o : Wanted)
+      (eo : orderIn o ≡ ordersAt (p .lot) (costsOf (p .costs)) (weight .symbol) (minus (times v (weight .weight)) x) (rowIf present quote)) where
+    order-read : ordersOf (moneyOf p) v weight ≡ orderIn o
+    order-read =
+        ap₂ (ordersAt (p .lot) (costsOf (p .costs)) (weight .symbol)) (sym difference-read) (row-read p (weight .symbol) present y x r present refl)
+        ∙ sym eo
 
-    -- the symbol is unquoted
-    pub walk-passes : present ≡ false → list′ ≡ list → n′ ≡ n → WalkAt (moneyOf p) v rows count list′ n′ (i + 1)
-    walk-passes b =
-        same-list
-        (ap (λ (o : Option Quote). given o [] (λ q. orderFor (weight .symbol) (sharesFor (costsOf (p .costs)) (difference (moneyOf p) v weight) q)))
-        (row-read p (weight .symbol) present y x r false b))
+    -- no order is listed at all
+    pub walk-breaks : o ≡ Beyond → none ≡ wanted (moneyOf p) v (counted rows count)
+    walk-breaks c = breaks-off (moneyOf p) v rows count list n i a h k (zero-read false f) (order-read ∙ ap (λ (z : Wanted). orderIn z) c)
 
-    module _ (b : present ≡ true) (shares : Float) (o : Wanted) (es : shares ≡ sharesFor (costsOf (p .costs)) (minus (times v (weight .weight)) x) quote)
-        (eo : orderIn o ≡ orderFor (weight .symbol) shares) where
-      order-read : ordersOf (moneyOf p) v weight ≡ orderIn o
-      order-read =
-          ap (λ (z : Option Quote). given z [] (λ q. orderFor (weight .symbol) (sharesFor (costsOf (p .costs)) (difference (moneyOf p) v weight) q)))
-          (row-read p (weight .symbol) present y x r true b)
-          ∙ ap (λ (z : Float). orderFor (weight .symbol) (sharesFor (costsOf (p .costs)) z quote)) (sym difference-read)
-          ∙ ap (orderFor (weight .symbol)) (sym es)
-          ∙ sym eo
-
-      -- zero shares list no order
+    module _ (list′ : OrderList) (n′ : ℕ) where
+      -- the symbol is unquoted, or no shares are wanted
       pub walk-lists-none : o ≡ Nothing → list′ ≡ list → n′ ≡ n → WalkAt (moneyOf p) v rows count list′ n′ (i + 1)
-      walk-lists-none c = same-list (order-read ∙ ap (λ (z : Wanted). orderIn z) c)
+      walk-lists-none c el en =
+          goes-on (moneyOf p) v rows count list n i a h k (zero-read false f) list′ n′ [] (ap (λ (l : OrderList). length (l .orders)) el ∙ a .wide)
+          (omega (arith, a .few))
+          (order-read ∙ ap (λ (z : Wanted). orderIn z) c)
+          (ap (λ (l : OrderList). take n′ (l .orders)) el ∙ ap (λ (j : ℕ). take j (list .orders)) en ∙ sym (append-nil (take n (list .orders))))
 
       pub walk-lists : (order : Order) → o ≡ Listed order → list′ .orders ≡ set (list .orders) n (order) → n′ ≡ n + 1 → WalkAt (moneyOf p) v rows count list′ n′ (i + 1)
       walk-lists order c el en =
           let placed : n < length (list .orders) = omega (arith, a .few, a .wide) in
-          let more : take n′ (list′ .orders) ≡ take n (list .orders) ++ (order ∷ [])
-          = ap (λ (l : List Order). take n′ l) el
-          ∙ ap (λ (j : ℕ). take j (set (list .orders) n (order))) (en ∙ add-one n)
-          ∙ take-suc-set (list .orders) n (order) placed in
-          goes-on (moneyOf p) v rows count list n i a h k (zero-read false f) list′ n′
+          goes-on (moneyOf p) v rows count list n i a h k (zero-read false f) list′ n′ (order ∷ [])
           (ap length el ∙ length-set (list .orders) n (order) ∙ a .wide)
           (omega (arith, a .few))
-          (more ∙ ap (λ (l : List Order). take n (list .orders) ++ l) (sym (order-read ∙ ap (λ (z : Wanted). orderIn z) c)))
+          (order-read ∙ ap (λ (z : Wanted). orderIn z) c)
+          (ap (λ (l : List Order). take n′ l) el
+          ∙ ap (λ (j : ℕ). take j (set (list .orders) n (order))) (en ∙ add-one n)
+          ∙ take-suc-set (list .orders) n (order) placed)
 
 -- ---- one side of a list behind the orders of another: what is there, and what is left of the side, come to the whole
 
@@ -378,26 +397,54 @@ sides-listed list long =
     = onto-listed noOrders sales (omega (arith, ap length none-listed)) ∙ ap (λ (l : List Order). l ++ sales) none-listed in
     onto-listed (ontoOf noOrders sales) buys (omega (arith, ap length first)) ∙ ap (λ (l : List Order). l ++ buys) first
 
-module _ (m : Money) (l : List Weight) (v : Float) (e : v ≡ liquidationValue m) where
-  -- the plan, by whether there is no value
-  abbrev planned : Bool → Plan
-  planned b = planAs (drawn ((b draws 13) ∷ [])) (sellsFirst (wanted m (liquidationValue m) l))
+module _ (m : Money) (l : List Weight) (v : Float) (e : v ≡ liquidationValue m) (w : WantedList) (f : wantedIn w ≡ wanted m v l)
+    (k : ℕ) (g : k ≡ drawn ((isZero v draws 13) ∷ (not (w .found) draws 18) ∷ [])) (start : OrderList) (es : start ≡ noOrders) where
+  -- the plan by the walk's orders
+  abbrev planned : Float → Option (List Order) → Plan
+  planned x walk = planAs (drawn (planTests x walk)) (sellsFirst (given walk [] (λ o. o)))
 
-  -- 13 where there is no value to weigh
-  pub plan-none : isZero v ≡ true → (start : OrderList) → start ≡ noOrders → record { fault = 13; orders = listed start } ≡ planOf m l
-  unfolding planOf drawn
-  plan-none t start es =
-      let z : isZero (liquidationValue m) ≡ true = sym (ap (λ (x : Float). isZero x) e) ∙ t in
-      ap (λ (o : List Order). record { fault = 13; orders = o }) (ap listed es ∙ none-listed) ∙ sym (ap planned z)
+  plan-is : planned v (wantedIn w) ≡ planOf m l
+  unfolding planOf
+  plan-is = ap₂ planned e (f ∙ ap (λ (x : Float). wanted m x l) e)
 
-  pub plan-lists : isZero v ≡ false → (list : OrderList) → length (list .orders) ≡ 256 → listed list ≡ wanted m v l →
-      (start sales all : OrderList) → start ≡ noOrders → sales ≡ ontoOf start (ofSide true (listed list)) → all ≡ ontoOf sales (ofSide false (listed list)) →
-      record { fault = 0; orders = listed all } ≡ planOf m l
-  unfolding planOf drawn
-  plan-lists t list long w start sales all es ea eb =
-      let z : isZero (liquidationValue m) ≡ false = sym (ap (λ (x : Float). isZero x) e) ∙ t in
-      let b : listed all ≡ sellsFirst (listed list)
+  -- the walk's orders are missing where it did not find them
+  missing : (found : Bool) → w .found ≡ found → given (wantedIn w) true (λ o. false) ≡ not (w .found)
+  missing true h = rw h
+  missing false h = rw h
+
+  number-is : k ≡ drawn (planTests v (wantedIn w))
+  number-is = g ∙ ap (λ (b : Bool). drawn ((isZero v draws 13) ∷ (b draws 18) ∷ [])) (sym (missing (w .found) refl))
+
+  plan-by : planAs k (sellsFirst (given (wantedIn w) [] (λ o. o))) ≡ planOf m l
+  plan-by = ap (λ (j : ℕ). planAs j (sellsFirst (given (wantedIn w) [] (λ o. o)))) number-is ∙ plan-is
+
+  none-by : (j : ℕ) → k ≡ j → (j ≡ 0 → ⊥) → record { fault = j; orders = [] } ≡ planAs j (sellsFirst (given (wantedIn w) [] (λ o. o)))
+  none-by zero h d = absurd (d refl)
+  none-by (suc j) h d = refl
+
+  -- no order is listed where a number is drawn
+  pub plan-none : (k ≡ 0 → ⊥) → record { fault = k; orders = listed start } ≡ planOf m l
+  plan-none d = ap (λ (o : List Order). record { fault = k; orders = o }) (ap listed es ∙ none-listed) ∙ none-by k refl d ∙ plan-by
+
+  found-by : (b : Bool) → w .found ≡ b → k ≡ 0 → w .found ≡ true
+  unfolding drawn
+  found-by true h z = h
+  found-by false h z = absurd (eighteen (isZero v) (sym z ∙ g ∙ ap (λ (x : Bool). drawn ((isZero v draws 13) ∷ (not x draws 18) ∷ [])) h))
+    where
+      eighteen : (b : Bool) → 0 ≡ drawn ((b draws 13) ∷ (true draws 18) ∷ []) → ⊥
+      eighteen true q = omega (arith, q)
+      eighteen false q = omega (arith, q)
+
+  lists-by : (j : ℕ) → k ≡ j → j ≡ 0 → (o : List Order) → o ≡ sellsFirst (given (wantedIn w) [] (λ x. x)) → record { fault = 0; orders = o } ≡ planAs j (sellsFirst (given (wantedIn w) [] (λ x. x)))
+  lists-by zero h z o q = ap (λ (x : List Order). record { fault = 0; orders = x }) q
+  lists-by (suc j) h z o q = absurd (omega (arith, z))
+
+  pub plan-lists : k ≡ 0 → length (w .list .orders) ≡ 256 → (sales all : OrderList) → sales ≡ ontoOf start (ofSide true (listed (w .list))) →
+      all ≡ ontoOf sales (ofSide false (listed (w .list))) → record { fault = 0; orders = listed all } ≡ planOf m l
+  plan-lists z long sales all ea eb =
+      let b : listed all ≡ sellsFirst (listed (w .list))
       = ap listed (eb
-      ∙ ap (λ (o : OrderList). ontoOf o (ofSide false (listed list))) (ea ∙ ap (λ (o : OrderList). ontoOf o (ofSide true (listed list))) es))
-      ∙ sides-listed list long in
-      ap (λ (o : List Order). record { fault = 0; orders = o }) (b ∙ ap sellsFirst (w ∙ ap (λ (x : Float). wanted m x l) e)) ∙ sym (ap planned z)
+      ∙ ap (λ (o : OrderList). ontoOf o (ofSide false (listed (w .list)))) (ea ∙ ap (λ (o : OrderList). ontoOf o (ofSide true (listed (w .list)))) es))
+      ∙ sides-listed (w .list) long in
+      let there : given (wantedIn w) [] (λ o. o) ≡ listed (w .list) = rw (found-by (w .found) refl z) in
+      lists-by k refl z (listed all) (b ∙ ap sellsFirst (sym there)) ∙ plan-by

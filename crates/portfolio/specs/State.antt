@@ -38,6 +38,7 @@ abbrev pub moneyOf : Portfolio → Money
 moneyOf p =
     record {
       costs = costsOf (p .costs);
+      lot = p .lot;
       latest = rowAt (p .latest);
       failed = p .funds .failed;
       cash = p .funds .cash;

@@ -1,4 +1,4 @@
-// A portfolio by role: the latest quotes, the funds and the costs.
+// A portfolio by role: the latest quotes, the funds, the costs and the lot.
 ghost use mathlib.Core.Path.{_≡_};
 ghost use Rattle.portfolio.specs.State.{noFunds};
 use costs::TradeCosts;
@@ -18,6 +18,7 @@ pub struct Portfolio {
     pub latest: Table,
     pub funds: Funds,
     pub costs: TradeCosts,
+    pub lot: u32,
 }
 
 impl Funds {

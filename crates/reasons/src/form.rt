@@ -10,6 +10,7 @@ pub enum Want {
     Symbol,
     Room,
     Log,
+    Lot,
     Side,
     Order,
     Quote,
@@ -21,6 +22,14 @@ pub(crate) fn is_wanted(want: Want) -> bool {
     match want {
         Want::Nothing => false,
         _ => true,
+    }
+}
+
+// May it be left out? A word that is not it is then of what comes next.
+pub(crate) fn is_optional(want: Want) -> bool {
+    match want {
+        Want::Lot => true,
+        _ => false,
     }
 }
 
@@ -46,7 +55,8 @@ fn only(k: usize, want: Want) -> Want {
 // The word at the place `k` behind the call's name, before its lists.
 pub(crate) fn fixed(verb: Verb, k: usize) -> Want {
     match verb {
-        Verb::New | Verb::Lend => only(k, Want::Log),
+        Verb::New => picked(k, Want::Log, Want::Lot, Want::Nothing),
+        Verb::Lend => only(k, Want::Log),
         Verb::Deposit | Verb::Withdraw | Verb::Liquidate | Verb::Floor | Verb::Ceil => {
             only(k, Want::Float)
         }

@@ -35,6 +35,22 @@ struct Place {
     count: usize,
 }
 
+// The place behind a fixed word.
+fn behind_fixed(p: Place) -> Place {
+    let mut q = p;
+    q.fixed = if p.fixed < 3 { p.fixed + 1 } else { 3 };
+    q
+}
+
+// The place at which a word is read: behind an optional word that it is not.
+fn place_of(p: Place, w: &[u8]) -> Place {
+    let verb = p.verb;
+    if !form::is_optional(form::fixed(verb, p.fixed)) || wrong::is_lot(w) {
+        return p;
+    }
+    behind_fixed(p)
+}
+
 fn is_slash(w: &[u8]) -> bool {
     word::is_name(w, b"/")
 }
@@ -75,11 +91,10 @@ fn wrong_at(p: Place, w: &[u8], rows: u64) -> Why {
 // The place behind a word with which nothing is wrong.
 fn behind(p: Place, w: &[u8]) -> Place {
     let verb = p.verb;
-    let mut q = p;
     if form::is_wanted(form::fixed(verb, p.fixed)) {
-        q.fixed = if p.fixed < 3 { p.fixed + 1 } else { 3 };
-        return q;
+        return behind_fixed(p);
     }
+    let mut q = p;
     if ends_list(p, w) {
         q.list = if p.list < 2 { p.list + 1 } else { 2 };
         q.count = 0;
@@ -123,6 +138,7 @@ fn wrong_behind(line: &[u8], at: usize, verb: Verb, rows: u64) -> Reason {
         if from == to {
             break;
         }
+        p = place_of(p, &line[from..to]);
         let why = wrong_at(p, &line[from..to], rows);
         if !wrong::is_nothing(why) {
             return Reason {

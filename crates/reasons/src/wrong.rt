@@ -212,6 +212,22 @@ fn cost(w: &[u8]) -> Why {
     first(in_part(w, 0, Part::CostName), in_part(w, 1, Part::Float))
 }
 
+// Is the word read as a lot: two parts, the first `lot`?
+pub(crate) fn is_lot(w: &[u8]) -> bool {
+    if word::parts(w) != 2 {
+        return false;
+    }
+    let p = word::part(w, 0);
+    let from = p.from;
+    let to = p.to;
+    word::is_name(&w[from..to], b"lot")
+}
+
+// Of a word that is read as a lot: its number is at most as large as a symbol.
+fn lot(w: &[u8]) -> Why {
+    in_part(w, 1, Part::Symbol)
+}
+
 // What is wrong with a word, for a program whose log has so many rows.
 pub(crate) fn wrong(want: Want, w: &[u8], rows: u64) -> Why {
     match want {
@@ -221,6 +237,7 @@ pub(crate) fn wrong(want: Want, w: &[u8], rows: u64) -> Why {
         Want::Symbol => whole(w, 4294967295),
         Want::Room => whole(w, 1024),
         Want::Log => whole(w, rows),
+        Want::Lot => lot(w),
         Want::Side => side(w),
         Want::Order => order(w),
         Want::Quote => quote(w),

@@ -8,7 +8,7 @@ use lib.Ieee.{Float, binary64, ofBits}
 use Rattle.market.specs.declared.order.OrderType.the-variants.{MarketBuy, StopSell}
 use Rattle.costs.specs.declared.BrokerCost.the-variants.{PctOfValue}
 use Rattle.words.specs.Words.{wordsOf, ascii}
-use Rattle.rows.specs.Rows.{orderOf, quoteOf, weightOf, costOf}
+use Rattle.rows.specs.Rows.{orderOf, quoteOf, weightOf, costOf, lotOf}
 
 -- 1.0, 99.0 and 100.0
 abbrev one : Float
@@ -38,3 +38,10 @@ Examples =
     × (weightOf (ascii "7:3ff0000000000000") ≡ some (record { symbol = 7; weight = one }))
     × (costOf (ascii "pct_of_value:3ff0000000000000") ≡ some (PctOfValue one))
     × (costOf (ascii "per_shares:3ff0000000000000") ≡ none)
+    -- a lot, the most of one and one more; no number; another name; a part too many
+    × (lotOf (ascii "lot:100") ≡ some 100)
+    × (lotOf (ascii "lot:4294967295") ≡ some 4294967295)
+    × (lotOf (ascii "lot:4294967296") ≡ none)
+    × (lotOf (ascii "lot:") ≡ none)
+    × (lotOf (ascii "lots:100") ≡ none)
+    × (lotOf (ascii "lot:100:") ≡ none)

@@ -1,5 +1,5 @@
--- Orders, quotes, weights and costs as words: the last five rows of the table of words in docs/SCENARIOS.md. A word is a row where
--- it has the row's number of parts and each part is of its form. Definitions only.
+-- Orders, quotes, weights, costs and lots as words: the last six rows of the table of words in docs/SCENARIOS.md. A word is a row
+-- where it has the row's number of parts and each part is of its form. Definitions only.
 use Prim.Native.Nat.{ℕ}
 use mathlib.Core.Bool.{cond}
 use mathlib.Core.List.{List}
@@ -15,7 +15,7 @@ use Rattle.market.specs.declared.quote.Quote.{Quote}
 use Rattle.market.specs.declared.weight.Weight.{Weight}
 use Rattle.costs.specs.declared.BrokerCost.{BrokerCost}
 use Rattle.costs.specs.declared.BrokerCost.the-variants.{PerShare, PctOfValue, Flat}
-use Rattle.words.specs.Numbers.{symbolOf, signedOf, floatOf}
+use Rattle.words.specs.Numbers.{someIf, symbolOf, signedOf, floatOf}
 use Rattle.words.specs.Words.{split, partOf, sameBytes, ascii}
 use Rattle.rows.specs.declared.KindRead.{KindRead}
 use Rattle.rows.specs.declared.KindRead.the-variants.{Of as Kind, Malformed as NoKind}
@@ -29,6 +29,8 @@ use Rattle.rows.specs.declared.WeightRead.{WeightRead}
 use Rattle.rows.specs.declared.WeightRead.the-variants.{Of as WeightRow, Malformed as NoWeight}
 use Rattle.rows.specs.declared.CostRead.{CostRead}
 use Rattle.rows.specs.declared.CostRead.the-variants.{Of as CostRow, Malformed as NoCost}
+use Rattle.rows.specs.declared.LotRead.{LotRead}
+use Rattle.rows.specs.declared.LotRead.the-variants.{Of as LotWord, Malformed as NoLot}
 
 -- what is made of a word that has n parts
 abbrev pub ofParts : {A : Type 0} → ℕ → List ℕ → Option A → Option A
@@ -100,6 +102,10 @@ costNamed s x =
 unfoldable pub costOf : List ℕ → Option BrokerCost
 costOf w = ofParts 2 w (ofPart (floatOf (partOf w 1)) (λ x. costNamed (partOf w 0) x))
 
+-- lot:LOT: a WHOLE that 32 bits hold, as of a SYMBOL, behind the name
+unfoldable pub lotOf : List ℕ → Option ℕ
+lotOf w = ofParts 2 w (ofPart (symbolOf (partOf w 1)) (λ n. someIf (sameBytes (partOf w 0) (ascii "lot")) n))
+
 -- what the program's answers say
 abbrev pub kindIn : KindRead → Option OrderType
 kindIn (Kind k) = some k
@@ -125,3 +131,7 @@ weightIn NoWeight = none
 abbrev pub costIn : CostRead → Option BrokerCost
 costIn (CostRow c) = some c
 costIn NoCost = none
+
+abbrev pub lotIn : LotRead → Option ℕ
+lotIn (LotWord n) = some n
+lotIn NoLot = none

@@ -1,8 +1,8 @@
-// Orders, quotes, weights and costs as words.
+// Orders, quotes, weights, costs and lots as words.
 ghost use mathlib.Core.Path.{_≡_};
 ghost use Rattle.words.specs.Numbers.{symbolIn, symbolOf, signedIn, signedOf, floatIn, floatOf};
 ghost use Rattle.words.specs.Words.{partOf};
-ghost use Rattle.rows.specs.Rows.{kindIn, kindOf, priceIn, priceOf, orderIn, orderOf, quoteIn, quoteOf, weightIn, weightOf, costIn, costNamed, costOf};
+ghost use Rattle.rows.specs.Rows.{kindIn, kindOf, priceIn, priceOf, orderIn, orderOf, quoteIn, quoteOf, weightIn, weightOf, costIn, costNamed, costOf, lotIn, lotOf};
 use costs::BrokerCost;
 use market::order::Order;
 use market::order::OrderType;
@@ -32,6 +32,11 @@ pub enum WeightRead {
 
 pub enum CostRead {
     Of(BrokerCost),
+    Malformed,
+}
+
+pub enum LotRead {
+    Of(u32),
     Malformed,
 }
 
@@ -246,4 +251,23 @@ pub fn cost(w: &[u8]) -> CostRead
     let from = p.from;
     let to = p.to;
     cost_named(&w[from..to], x)
+}
+
+// lot:LOT, a whole number that 32 bits hold
+pub fn lot(w: &[u8]) -> LotRead
+    ensures { λ r. ⌜ lotIn r ≡ lotOf (now (w .entry)) ⌝ }
+{
+    if word::parts(w) != 2 {
+        return LotRead::Malformed;
+    }
+    let SymbolRead::Of(n) = symbol_in(w, 1) else {
+        return LotRead::Malformed;
+    };
+    let p = word::part(w, 0);
+    let from = p.from;
+    let to = p.to;
+    if word::is_name(&w[from..to], b"lot") {
+        return LotRead::Of(n);
+    }
+    LotRead::Malformed
 }

@@ -1,3 +1,4 @@
 -- The laws of the rules.
 pub mod Literals
 pub mod Unquoted
+pub mod LotOne

@@ -5,4 +5,5 @@ pub mod Values
 pub mod Sends
 pub mod Liquidation
 pub mod Weights
+pub mod WholeShares
 pub mod Basis

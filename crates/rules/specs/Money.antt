@@ -1,4 +1,4 @@
--- What the rules of sections 4 and 5 read and move: costs, latest quotes, Failed, cash, holdings and pending quantities. Definitions only.
+-- What the rules of sections 4 and 5 read and move: costs, the lot, latest quotes, Failed, cash, holdings and pending quantities. Definitions only.
 use Prim.Native.Nat.{ℕ}
 use mathlib.Core.Bool.{Bool, _||_, cond}
 use mathlib.Core.List.{List, foldl}
@@ -18,6 +18,7 @@ use Rattle.rules.specs.Amounts.{plus, minus, negated, isZero}
 -- maps from symbols are functions to what may be missing
 pub record Money : Type 0 where
   pub costs : List BrokerCost
+  pub lot : ℕ
   pub latest : ℕ → Option Quote
   pub failed : Bool
   pub cash : Float
@@ -25,7 +26,7 @@ pub record Money : Type 0 where
   pub pending : ℕ → Option Float
 
 abbrev pub withCash : Money → Float → Money
-withCash m x = record { costs = m .costs; latest = m .latest; failed = m .failed; cash = x; held = m .held; pending = m .pending }
+withCash m x = record { costs = m .costs; lot = m .lot; latest = m .latest; failed = m .failed; cash = x; held = m .held; pending = m .pending }
 
 -- a map with another entry at a symbol
 abbrev pub put : {A : Type 0} → (ℕ → Option A) → ℕ → Option A → ℕ → Option A
@@ -42,7 +43,7 @@ abbrev pub fetchOne : (ℕ → Option Quote) → Quote → ℕ → Option Quote
 fetchOne m q = put m (q .symbol) (some q)
 
 unfoldable pub fetched : List Quote → Money → Money
-fetched t m = record { costs = m .costs; latest = foldl fetchOne (m .latest) t; failed = m .failed; cash = m .cash; held = m .held; pending = m .pending }
+fetched t m = record { costs = m .costs; lot = m .lot; latest = foldl fetchOne (m .latest) t; failed = m .failed; cash = m .cash; held = m .held; pending = m .pending }
 
 -- ---- a trade: a buy takes its value from cash, adds its shares to the holding and takes them off pending; a sale does the reverse.
 -- Holding and pending are removed when a trade makes them zero; trade costs are not charged
@@ -69,6 +70,7 @@ settled m x =
     let s = x .symbol in
     record {
       costs = m .costs;
+      lot = m .lot;
       latest = m .latest;
       failed = m .failed;
       cash = paid (x .typ) (m .cash) (x .value);
@@ -85,6 +87,7 @@ unfoldable pub expected : Order → Money → Money
 expected o m =
     record {
       costs = m .costs;
+      lot = m .lot;
       latest = m .latest;
       failed = m .failed;
       cash = m .cash;
@@ -95,4 +98,4 @@ expected o m =
 -- ---- Failed for good where a liquidation failed
 
 unfoldable pub failedIf : Bool → Money → Money
-failedIf b m = record { costs = m .costs; latest = m .latest; failed = m .failed || b; cash = m .cash; held = m .held; pending = m .pending }
+failedIf b m = record { costs = m .costs; lot = m .lot; latest = m .latest; failed = m .failed || b; cash = m .cash; held = m .held; pending = m .pending }

@@ -42,7 +42,7 @@ pub(crate) fn fresh() -> View {
 
 // The broker before the first `new`: no log, no quotes.
 pub(crate) fn first_broker() -> UistBroker {
-    let x = UistBroker::build(TradeCosts::none(), ReadTable::empty(), 0);
+    let x = UistBroker::build(TradeCosts::none(), 1, ReadTable::empty(), 0);
     x.broker
 }
 

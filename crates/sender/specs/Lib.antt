@@ -1,2 +1,3 @@
--- The sender's numbers by what an order's tests read: document 01, section 4.
+-- The sender's numbers by what an order's tests read, and the lender's 16 by a broker's counts and lot.
 pub mod Sender
+pub mod Sound

@@ -8,6 +8,9 @@ ghost use Rattle.market.specs.Trades.{rowIf};
 ghost use Rattle.rules.specs.Money.{unlessZero};
 ghost use Rattle.rules.specs.Sends.{exceedsCash, exceedsHolding};
 ghost use Rattle.sender.specs.Sender.{quoteIn, eventAt, pendingAfter};
+
+pub mod sound;
+
 use exchange::state::Counts;
 use market::order::Order;
 use market::order::OrderEvent;

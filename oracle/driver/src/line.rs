@@ -9,7 +9,7 @@ use rotala_client::broker::{
 
 use crate::shared::Broker;
 use crate::state::turnover;
-use crate::text::{cost, float, order, quote, symbol, weight, whole};
+use crate::text::{cost, float, lot, order, quote, symbol, weight, whole};
 
 pub const MOST_BYTES: usize = 65_535;
 pub const MOST_ROWS: usize = 512;
@@ -81,8 +81,16 @@ fn lists<'a, const N: usize>(words: Words<'a>) -> Option<[Words<'a>; N]> {
     lists.try_into().ok()
 }
 
+/// The words behind a log's length and its lot, which may be left out. The Rust has no lots: the word has no effect.
+fn behind_lot(rest: Words) -> Words {
+    match rest {
+        [word, behind @ ..] if lot(word).is_some() => behind,
+        _ => rest,
+    }
+}
+
 fn new(rest: Words) -> Option<Call> {
-    let [costs, first] = lists(rest)?;
+    let [costs, first] = lists(behind_lot(rest))?;
     Some(Call::New(rows(costs, MOST_COSTS, cost)?, table(first)?))
 }
 

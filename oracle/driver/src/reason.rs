@@ -18,7 +18,7 @@ const ORDERS: List = (not_order, MOST_ORDERS);
 const QUOTES: List = (not_quote, MOST_ROWS);
 const WEIGHTS: List = (not_weight, MOST_ROWS);
 
-/// The log has no rows of its own here, so that any WHOLE is a LOG.
+/// The log has no rows of its own here, so that any WHOLE is a LOG. A LOT may stand before the lists of `new`.
 const FORMS: &[Form] = &[
     (&["new"], &[not_whole], &[COSTS, QUOTES]),
     (&["lend", "delete"], &[not_whole], &[]),
@@ -62,7 +62,20 @@ fn first_fault(words: &[&[u8]]) -> Option<(usize, &'static str)> {
             return Some((at, fault));
         }
     }
-    fault_in_lists(words, 1 + fixed.len(), lists)
+    let start = 1 + fixed.len();
+    match lot_number(words, start).map(not_symbol) {
+        None => fault_in_lists(words, start, lists),
+        Some(None) => fault_in_lists(words, start + 1, lists),
+        Some(Some(fault)) => Some((start, fault)),
+    }
+}
+
+/// The number of the LOT at this place, where `new` has a word there that is taken for one.
+fn lot_number<'a>(words: &[&'a [u8]], at: usize) -> Option<&'a [u8]> {
+    match parts(words.get(at)?)? {
+        [b"lot", number] if words[0] == b"new" => Some(number),
+        _ => None,
+    }
 }
 
 /// The same from a word on, where the first of these lists starts.

@@ -98,6 +98,13 @@ pub fn cost_of(case: &[u8], amount: f64) -> Option<BrokerCost> {
     })
 }
 
+pub fn lot(word: &[u8]) -> Option<u32> {
+    match parts(word)? {
+        [b"lot", number] => u32::try_from(whole(number)?).ok(),
+        _ => None,
+    }
+}
+
 pub fn put(out: &mut Vec<u8>, text: &str) {
     out.extend_from_slice(text.as_bytes());
 }

@@ -1,5 +1,5 @@
 -- `build_on`: the first rows of the table are lent, and the log is passed on. Assumes nothing.
-use Rattle.slices.proofs.Derivation.{Base, ptrTo, shrTy, same, hasV, freeV, hasA, makeA, freeA, rd, fr, gn, loc, drop, copies, units, begins, over, forgets, arrTo, freeS, joins-shr, shares-array, array-shr-back, returns, Callee, Knows, _&_, no-more, shr, by-val, by-slice, calls, callee, Task, task, Derives, Owes, runs, world, under, knows, closes, arith, refl, [], _∷_, w64, erased, imm, Sc, sInt}
+use Rattle.slices.proofs.Derivation.{Base, ptrTo, shrTy, same, hasV, freeV, hasA, makeA, freeA, rd, fr, gn, loc, drop, copies, units, begins, over, forgets, arrTo, freeS, joins-shr, shares-array, array-shr-back, returns, Callee, Knows, _&_, no-more, shr, int, by-val, by-num, by-slice, calls, callee, Task, task, Derives, Owes, runs, world, under, knows, closes, arith, refl, [], _∷_, w32, w64, erased, imm, Sc, sInt}
 use Rattle.lent.proofs.Rows.{quote, trade}
 use Rattle.lent.proofs.UistRows.{trade-costs}
 use Rattle.lent.proofs.Public as Public
@@ -28,18 +28,18 @@ goal = task contract 1 code.function Kn
 
 abbrev derived : Derives goal
 derived o kn κs qs bs =
-    calls tradable-in (kn .0) [] (by-val 2 (hasV lists) refl & no-more) 6 gn tt refl (
-    copies 6 4 (hasA quote 512) gn (makeA quote 512) refl (
-    calls tradable-rows (kn .1) [] (by-val 2 (hasV lists) refl & no-more) 5 gn tt refl (
-    begins 1 (units 9) (
-    shares-array quote 512 1 4 7 (arrTo quote 512 imm) (λ u. u .1 .1 .1 .1 .1 .0) same gn refl (λ i j. tt) (omega arith, omega arith) (
-    joins-shr quote 1 7 8 (arrTo quote 512 imm) (ptrTo quote imm erased) (loc 5 (rd U)) same gn refl refl (λ i j k. tt) (
-    calls build (kn .2) (1 ∷ 0 ∷ []) (by-val 1 (hasV trade-costs) refl & by-slice 8 1 (ptrTo quote imm erased) shr refl & by-slice 3 0 (shrTy trade 0) shr refl & no-more) 0 gn (tt, (tt, tt)) refl (
-    drop 8 (freeS quote 1) (
+    calls tradable-in (kn .0) [] (by-val 3 (hasV lists) refl & no-more) 7 gn tt refl (
+    copies 7 5 (hasA quote 512) gn (makeA quote 512) refl (
+    calls tradable-rows (kn .1) [] (by-val 3 (hasV lists) refl & no-more) 6 gn tt refl (
+    begins 1 (units 10) (
+    shares-array quote 512 1 5 8 (arrTo quote 512 imm) (λ u. u .1 .1 .1 .1 .1 .1 .0) same gn refl (λ i j. tt) (omega arith, omega arith) (
+    joins-shr quote 1 8 9 (arrTo quote 512 imm) (ptrTo quote imm erased) (loc 6 (rd U)) same gn refl refl (λ i j k. tt) (
+    calls build (kn .2) (1 ∷ 0 ∷ []) (by-val 1 (hasV trade-costs) refl & by-num 2 int refl & by-slice 9 1 (ptrTo quote imm erased) shr refl & by-slice 4 0 (shrTy trade 0) shr refl & no-more) 0 gn (tt, (tt, tt)) refl (
+    drop 9 (freeS quote 1) (
     over 1 refl (
-    array-shr-back quote 512 1 4 same refl (
+    array-shr-back quote 512 1 5 same refl (
     forgets 1 refl (
-    drop 1 (freeV trade-costs) (drop 2 (freeV lists) (drop 4 (freeA quote 512) (drop 5 (fr U) (drop 6 (freeA quote 512) (returns tt))))))))))))))))
+    drop 1 (freeV trade-costs) (drop 2 (fr (sInt w32)) (drop 3 (freeV lists) (drop 5 (freeA quote 512) (drop 6 (fr U) (drop 7 (freeA quote 512) (returns tt)))))))))))))))))
 
 asked : Owes goal derived
 asked o kn κs qs a good pre bs = (
@@ -50,7 +50,7 @@ asked o kn κs qs a good pre bs = (
       within (t .1) (k .1) _ 512 (k .5) (t .3 .1 .0 .1),
       λ _. (
         count-within (t .1) (k .1) _ 512 (k .5) (t .3 .1 .0 .1),
-        (λ _. tt, λ r. ((tt, (tt, (refl, tt))), build-answers (a .0) (a .1 .0) (a .1 .1 .0 .now) (t .1) (k .1) (r .1) (t .5) (k .5) (r .5))),
+        (λ _. tt, λ r. ((tt, (tt, (tt, (refl, tt)))), build-answers (a .0) (a .1 .0) (a .1 .1 .0) (a .1 .1 .1 .0 .now) (t .1) (k .1) (r .1) (t .5) (k .5) (r .5))),
       ),
     ),
   ),

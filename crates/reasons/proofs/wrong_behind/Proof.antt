@@ -18,6 +18,18 @@ sub-turns c = search needs
 word-in-requires : tie.Need-word-in-requires Inv-loop μ-loop
 word-in-requires c κs = search needs
 
+sub-place-of : tie.Need-sub-place-of Inv-loop μ-loop
+sub-place-of c = search needs
+
+part-place-of-start : tie.Need-part-place-of-start Inv-loop μ-loop
+part-place-of-start c = search needs
+
+part-place-of-end : tie.Need-part-place-of-end Inv-loop μ-loop
+part-place-of-end c = search needs
+
+place-of-requires : tie.Need-place-of-requires Inv-loop μ-loop
+place-of-requires c κs = search needs
+
 sub-wrong-at : tie.Need-sub-wrong-at Inv-loop μ-loop
 sub-wrong-at c = search needs
 
@@ -90,6 +102,10 @@ wrong-behind-spec =
     loop-holds
     sub-turns
     word-in-requires
+    sub-place-of
+    part-place-of-start
+    part-place-of-end
+    place-of-requires
     sub-wrong-at
     part-wrong-at-start
     part-wrong-at-end

@@ -18,7 +18,7 @@ abbrev refusing : UistV1 → Table → Funds → TradeCosts → UistBroker
 refusing e t f k =
     record {
       exchange = record { book = e .book; counts = record { resting = 0; waits = 0; ids = 1; taken = 0; logged = 0; room = 0 } };
-      portfolio = record { latest = t; funds = f; costs = k };
+      portfolio = record { latest = t; funds = f; costs = k; lot = 0 };
     }
 
 made : (e : UistV1) (t : Table) (f : Funds) (k : TradeCosts) → e ≡ fresh 0 → t ≡ emptyTable → f ≡ noFunds → k ≡ noCosts → refusing e t f k ≡ noBroker

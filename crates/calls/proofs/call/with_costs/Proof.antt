@@ -1,12 +1,10 @@
 -- `call::with_costs` meets its contract. Assumes nothing.
 use mathlib.Core.Path.{ap, _∙_}
-use mathlib.Core.Bool.{true}
 use Rattle.words.specs.Numbers.{wholeIn}
 use Rattle.words.proofs.Picks.{says, with-some, with-none}
-use Rattle.calls.specs.declared.list.RowKind.the-variants.{Cost}
-use Rattle.calls.specs.Lists.{listOf, firstWords, wordsIn, spanned}
-use Rattle.calls.specs.Calls.{saidNew, heard, plainCall}
-use Rattle.calls.proofs.Calls.{plain-heard}
+use Rattle.calls.specs.Lists.{firstWords, wordsIn, spanned}
+use Rattle.calls.specs.Calls.{lotAt, saidNew, heard, plainCall}
+use Rattle.calls.proofs.Calls.{plain-heard, built}
 use borrow.Author.Needs.{needs}
 use Rattle.calls.proofs.call.with_costs.Statement.{statement}
 use Rattle.calls.proofs.call.with_costs.Tie as tie
@@ -30,6 +28,9 @@ returns c =
     let head = log .whole-at .ensures in
     with-none _ _ (says wholeIn (head .read) (c .before .enum-told .given .1)) (plain-heard _ _ (c .malformed .ensures))
 
+lot-at-requires : tie.Need-lot-at-requires
+lot-at-requires c κs = search needs
+
 span-at-requires : tie.Need-span-at-requires
 span-at-requires c κs = search needs
 
@@ -46,10 +47,12 @@ returns-2 : tie.Need-returns-2
 unfolding saidNew spanned
 returns-2 c =
     let costs = c .before .before .before in
-    let log = costs .before .before .before .before in
+    let lot = costs .before in
+    let log = lot .before .before .before .before in
     let head = log .whole-at .ensures in
-    with-some _ _ _ (says wholeIn (head .read) (costs .before .before .read .given .1))
-    (with-none _ _ (says (spanned _) (costs .span-at .ensures ∙ ap (listOf Cost 32 true) (head .rest)) (c .before .enum-told2 .given .1)) (plain-heard _ _ (c .malformed2 .ensures)))
+    with-some _ _ _ (says wholeIn (head .read) (lot .before .before .read .given .1))
+    (built _ _ (lot .lot-at .ensures ∙ ap lotAt (head .rest))
+    (with-none _ _ (says (spanned _) (costs .span-at .ensures) (c .before .enum-told2 .given .1)) (plain-heard _ _ (c .malformed2 .ensures))))
 
 span-at-requires-2 : tie.Need-span-at-requires-2
 span-at-requires-2 c κs = search needs
@@ -68,11 +71,13 @@ unfolding saidNew spanned
 returns-3 c =
     let first = c .before .before .before in
     let costs = first .before .before .before .before in
-    let log = costs .before .before .before .before in
+    let lot = costs .before in
+    let log = lot .before .before .before .before in
     let head = log .whole-at .ensures in
-    with-some _ _ _ (says wholeIn (head .read) (costs .before .before .read .given .1))
-    (with-some _ _ _ (says (spanned _) (costs .span-at .ensures ∙ ap (listOf Cost 32 true) (head .rest)) (first .before .before .costs .given .1))
-    (with-none _ _ (says (spanned _) (first .span-at2 .ensures) (c .before .enum-told3 .given .1)) (plain-heard _ _ (c .malformed3 .ensures))))
+    with-some _ _ _ (says wholeIn (head .read) (lot .before .before .read .given .1))
+    (built _ _ (lot .lot-at .ensures ∙ ap lotAt (head .rest))
+    (with-some _ _ _ (says (spanned _) (costs .span-at .ensures) (first .before .before .costs .given .1))
+    (with-none _ _ (says (spanned _) (first .span-at2 .ensures) (c .before .enum-told3 .given .1)) (plain-heard _ _ (c .malformed3 .ensures)))))
 
 plain-requires : tie.Need-plain-requires
 plain-requires c κs = search needs
@@ -82,11 +87,13 @@ unfolding saidNew spanned heard plainCall wordsIn firstWords
 returns-4 c =
     let first = c .before .before .before .before in
     let costs = first .before .before .before .before in
-    let log = costs .before .before .before .before in
+    let lot = costs .before in
+    let log = lot .before .before .before .before in
     let head = log .whole-at .ensures in
-    with-some _ _ _ (says wholeIn (head .read) (costs .before .before .read .given .1))
-    (with-some _ _ _ (says (spanned _) (costs .span-at .ensures ∙ ap (listOf Cost 32 true) (head .rest)) (first .before .before .costs .given .1))
-    (with-some _ _ _ (says (spanned _) (first .span-at2 .ensures) (c .before .before .first .given .1)) (rw (c .plain .ensures))))
+    with-some _ _ _ (says wholeIn (head .read) (lot .before .before .read .given .1))
+    (built _ _ (lot .lot-at .ensures ∙ ap lotAt (head .rest))
+    (with-some _ _ _ (says (spanned _) (costs .span-at .ensures) (first .before .before .costs .given .1))
+    (with-some _ _ _ (says (spanned _) (first .span-at2 .ensures) (c .before .before .first .given .1)) (rw (c .plain .ensures)))))
 
 pub with-costs-spec : {M : Type 1} → statement M
 with-costs-spec =
@@ -97,6 +104,7 @@ with-costs-spec =
     enum-told
     malformed-requires
     returns
+    lot-at-requires
     span-at-requires
     enum-known-costs
     enum-told-2

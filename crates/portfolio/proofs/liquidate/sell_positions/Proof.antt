@@ -105,10 +105,10 @@ add-n-2 : tie.Need-add-n-2 Inv-loop μ-loop
 add-n-2 c = omega (arith, stopped (c .before .before) .few)
 
 returns : tie.Need-returns Inv-loop μ-loop
-returns c = sold-last (stopped (c .before .before)) (c .before .before .before .before .before .before .before .args .p .costs) (c .before .if4 .taken)
+returns c = sold-last (stopped (c .before .before)) (c .before .before .before .before .before .before .before .args .p .costs) (c .before .before .before .before .before .before .before .args .p .lot) (c .before .if4 .taken)
 
 returns-2 : tie.Need-returns-2 Inv-loop μ-loop
-returns-2 c = sold-whole (stopped (c .before)) (c .before .before .before .before .before .before .args .p .costs) (c .if4 .left)
+returns-2 c = sold-whole (stopped (c .before)) (c .before .before .before .before .before .before .args .p .costs) (c .before .before .before .before .before .before .args .p .lot) (c .if4 .left)
 
 pub sell-positions-spec : {M : Type 1} → statement M
 sell-positions-spec =

@@ -1,6 +1,6 @@
 -- `wanted_orders` meets its contract: the orders so far, and those of the weights that are left, are the whole walk.
 use Prim.Native.Nat.{_-_, _<_}
-use mathlib.Core.Path.{refl, ap, _∙_}
+use mathlib.Core.Path.{ap, _∙_}
 use mathlib.Core.Logic.{⊎-elim}
 use native.Mathlib.Omega.{arith}
 use lib.ListN.{length, getD, length-replicate}
@@ -8,17 +8,18 @@ use borrow.Author.Needs.{needs}
 use Rattle.market.specs.Orders.{blankOrder}
 use Rattle.portfolio.specs.State.{moneyOf}
 use Rattle.portfolio.specs.Lists.{noOrders}
+use Rattle.portfolio.specs.Weigh.{wantedIn}
 use Rattle.portfolio.specs.declared.list.OrderList.{OrderList}
 use Rattle.market.proofs.Weights.{noWeight}
-use Rattle.portfolio.proofs.Weighing.{ReadAt, WalkAt, walk-end-first, walk-end-last, walk-stops, walk-passes, walk-lists-none, walk-lists}
+use Rattle.portfolio.proofs.Weighing.{ReadAt, WalkAt, then-all, walk-end-first, walk-end-last, walk-stops, walk-breaks, walk-lists-none, walk-lists}
 use Rattle.portfolio.proofs.weigh.wanted_orders.Statement.{statement}
 use Rattle.portfolio.proofs.weigh.wanted_orders.Tie as tie
 
 abbrev Inv-loop : tie.InvT-loop
-Inv-loop total count rows latest funds costs list₀ n₀ i₀ list n i = WalkAt (moneyOf (record { latest = latest; funds = funds; costs = costs })) total rows count list n i
+Inv-loop total count rows latest funds costs lot list₀ n₀ i₀ list n i = WalkAt (moneyOf (record { latest = latest; funds = funds; costs = costs; lot = lot })) total rows count list n i
 
 abbrev μ-loop : tie.MeasureT-loop
-μ-loop total count rows latest funds costs list₀ n₀ i₀ list n i = 256 - i
+μ-loop total count rows latest funds costs lot list₀ n₀ i₀ list n i = 256 - i
 
 none-requires : tie.Need-none-requires Inv-loop μ-loop
 none-requires c κs = search needs
@@ -31,7 +32,7 @@ loop-holds c =
       long = start .good .1 .1 .0 .1 .0 .1;
       wide = ap (λ (l : OrderList). length (l .orders)) (c .none .ensures) ∙ length-replicate 256 blankOrder;
       few = omega arith;
-      rest = refl;
+      rest = then-all _;
     }
 
 -- what a turn read at the weight's symbol
@@ -80,26 +81,40 @@ value-at-requires c κs = search needs
 or-zero-requires : tie.Need-or-zero-requires Inv-loop μ-loop
 or-zero-requires c κs = search needs
 
-shares-for-requires : tie.Need-shares-for-requires Inv-loop μ-loop
-shares-for-requires c κs = search needs
-
-order-for-requires : tie.Need-order-for-requires Inv-loop μ-loop
-order-for-requires c κs = search needs
+wanted-at-requires : tie.Need-wanted-at-requires Inv-loop μ-loop
+wanted-at-requires c κs = search needs
 
 enum-known-x : tie.Need-enum-known-x Inv-loop μ-loop
 enum-known-x c = search needs
 
 mul-order : tie.Need-mul-order Inv-loop μ-loop
-mul-order c = omega (arith, place-left (c .before .before .before .before .before .before))
+mul-order c = omega (arith, place-left (c .before .before .before .before))
 
 element-set-from-order : tie.Need-element-set-from-order Inv-loop μ-loop
-element-set-from-order c = place-left (c .before .before .before .before .before .before)
+element-set-from-order c = place-left (c .before .before .before .before)
 
 add-n : tie.Need-add-n Inv-loop μ-loop
-add-n c = omega (arith, place-left (c .before .before .before .before .before .before))
+add-n c = omega (arith, place-left (c .before .before .before .before))
 
 enum-told : tie.Need-enum-told Inv-loop μ-loop
 enum-told c = search needs
+
+enum-told-2 : tie.Need-enum-told-2 Inv-loop μ-loop
+enum-told-2 c = search needs
+
+walked-requires : tie.Need-walked-requires Inv-loop μ-loop
+walked-requires c κs = search needs
+
+returns : tie.Need-returns Inv-loop μ-loop
+returns c =
+    let row = c .before .before .before in
+    let read = row .before .before .before in
+    let turn = read .before .before .before .before .before .before .before .before in
+    let at = turn .before .before in
+    let p = at .before .before .before .before .before .args .p in
+    ap wantedIn (c .walked .ensures)
+    ∙ walk-breaks p _ _ _ _ _ _ (at .loop .inv) (turn .before .loop-test .taken) (turn .if1 .left) _ _ _ (read-at read) (row .before .if2 .left) _ (row .wanted-at .ensures)
+    (c .before .enum-told2 .given .1)
 
 add-i : tie.Need-add-i Inv-loop μ-loop
 add-i c = omega arith
@@ -109,7 +124,8 @@ loop-less c = omega arith
 
 loop-again : tie.Need-loop-again Inv-loop μ-loop
 loop-again c =
-    let read = c .before .before .before in
+    let row = c .before in
+    let read = row .before .before .before in
     let turn = read .before .before .before .before .before .before .before .before in
     let at = turn .before .before in
     let p = at .before .before .before .before .before .args .p in
@@ -117,27 +133,30 @@ loop-again c =
     let h = turn .before .loop-test .taken in
     let k = turn .if1 .left in
     let r = read-at read in
-    let f = c .before .if2 .left in
+    let f = row .before .if2 .left in
+    let o = row .wanted-at .ensures in
     ⊎-elim
-    (λ w. walk-lists p _ _ _ _ _ _ a h k _ _ _ r f _ _ (w .0 .taken) _ _ (w .1 .ensures) (w .2 .ensures) _ (w .4 .given .1) (ap (λ (l : OrderList). l .orders) (w .6)) (w .7))
-    (λ v.
-    ⊎-elim (λ w. walk-lists-none p _ _ _ _ _ _ a h k _ _ _ r f _ _ (w .0 .taken) _ _ (w .1 .ensures) (w .2 .ensures) (w .4 .given .1) (w .5) (w .6))
-    (λ w. walk-passes p _ _ _ _ _ _ a h k _ _ _ r f _ _ (w .0 .left) (w .1) (w .2)) v)
-    (c .if3 .came)
+    (λ w. walk-lists p _ _ _ _ _ _ a h k _ _ _ r f _ o _ _ _ (w .1 .given .1) (ap (λ (l : OrderList). l .orders) (w .3)) (w .4))
+    (λ w. walk-lists-none p _ _ _ _ _ _ a h k _ _ _ r f _ o _ _ (w .1 .given .1) (w .2) (w .3))
+    (c .match .came)
 
-returns : tie.Need-returns Inv-loop μ-loop
-returns c = walk-end-last _ _ _ _ _ _ _ (c .before .loop .inv) (c .loop-test .left)
+walked-requires-2 : tie.Need-walked-requires-2 Inv-loop μ-loop
+walked-requires-2 c κs = search needs
 
 returns-2 : tie.Need-returns-2 Inv-loop μ-loop
-returns-2 c = walk-end-first _ _ _ _ _ _ _ (c .before .before .loop .inv) (c .if1 .taken)
-
-returns-3 : tie.Need-returns-3 Inv-loop μ-loop
-returns-3 c =
-    let read = c .before .before in
-    let turn = read .before .before .before .before .before .before .before .before in
-    let at = turn .before .before in
+returns-2 c =
+    let left = c .before in
+    let at = left .before in
     let p = at .before .before .before .before .before .args .p in
-    walk-stops p _ _ _ _ _ _ (at .loop .inv) (turn .before .loop-test .taken) (turn .if1 .left) _ _ _ (read-at read) (c .if2 .taken)
+    let a = at .loop .inv in
+    ap wantedIn (c .walked2 .ensures)
+    ∙ ⊎-elim (λ w. walk-end-last _ _ _ _ _ _ _ a (w .left))
+    (λ v.
+    ⊎-elim (λ w. walk-end-first _ _ _ _ _ _ _ a (w .1 .taken))
+    (λ w.
+    walk-stops p _ _ _ _ _ _ a (w .0 .taken) (w .1 .left) (w .6 .result) (w .8 .result) (w .9 .result) (record { quoted = w .6 .ensures; worth = w .8 .ensures; amount = w .9 .ensures }) (w .11 .taken))
+    v)
+    (left .loop-test .came)
 
 pub wanted-orders-spec : {M : Type 1} → statement M
 wanted-orders-spec =
@@ -158,16 +177,17 @@ wanted-orders-spec =
     element-copy-out-value-at
     value-at-requires
     or-zero-requires
-    shares-for-requires
-    order-for-requires
+    wanted-at-requires
     enum-known-x
     mul-order
     element-set-from-order
     add-n
     enum-told
+    enum-told-2
+    walked-requires
+    returns
     add-i
     loop-less
     loop-again
-    returns
-    returns-2
-    returns-3)
+    walked-requires-2
+    returns-2)

@@ -49,7 +49,7 @@ module _ (b : UistBroker) (t f : Table) (n : ℕ) where
         subst (λ (y : Ticked). SendsFit (y .exchange .counts)) (sym done) (ticked-fits (b .exchange) (rowAt t) (s .0))
 
     abbrev bookedAs : Ticked → Table → Funds → UistBroker
-    bookedAs y latest funds = record { exchange = y .exchange; portfolio = record { latest = latest; funds = funds; costs = b .portfolio .costs } }
+    bookedAs y latest funds = record { exchange = y .exchange; portfolio = record { latest = latest; funds = funds; costs = b .portfolio .costs; lot = b .portfolio .lot } }
 
     module _ (l : Table) (q : l ≡ mergeOf (b .portfolio .latest) f) (g : Funds) (r : g ≡ foldl settleOne (b .portfolio .funds) (take (x .count) (x .trades))) where
       booked : bookedAs x l g ≡ bookedBy b t f

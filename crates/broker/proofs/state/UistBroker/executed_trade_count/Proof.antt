@@ -1,27 +1,34 @@
--- `UistBroker::executed_trade_count` meets its contract: it is the exchange's count. Assumes nothing.
-use mathlib.Core.Path.{_≡_, ap}
+-- `UistBroker::executed_trade_count` meets its contract: 16, or the count of logged trades. Assumes nothing.
+use Prim.Native.Nat.{ℕ, zero, suc}
+use mathlib.Core.Path.{_≡_, refl, ap, _∙_}
+use native.Mathlib.Omega.{arith}
 use borrow.Author.Needs.{needs}
-use Rattle.exchange.specs.State.{tradeCountOf}
-use Rattle.broker.specs.declared.state.UistBroker.{UistBroker}
-use Rattle.exchange.specs.declared.read.TradeCount.{TradeCount}
-use Rattle.broker.specs.Lender.{brokerFault}
 use Rattle.broker.specs.Read.{readCount}
-use Rattle.broker.specs.declared.read.CountRead.{CountRead}
 use Rattle.broker.proofs.state.UistBroker.executed_trade_count.Statement.{statement}
 use Rattle.broker.proofs.state.UistBroker.executed_trade_count.Tie as tie
 
-abbrev countIn : TradeCount → CountRead
-countIn x = record { count = x .count; fault = x .fault }
+refused : (k n : ℕ) → (n ≡ 0 → ⊥) → record { count = 0; fault = n } ≡ readCount k n
+unfolding readCount
+refused k zero d = absurd (d refl)
+refused k (suc n) d = refl
 
-counted : (b : UistBroker) (x : TradeCount) → x ≡ tradeCountOf (b .exchange) → countIn x ≡ readCount (b .exchange .counts .logged) (brokerFault b)
-unfolding tradeCountOf readCount
-counted b x p = ap countIn p
+counted : (k n : ℕ) → n ≡ 0 → record { count = k; fault = 0 } ≡ readCount k n
+unfolding readCount
+counted k zero z = refl
+counted k (suc n) z = absurd (omega arith)
 
-executed-trade-count-requires : tie.Need-executed-trade-count-requires
-executed-trade-count-requires c κs = search needs
+fault-requires : tie.Need-fault-requires
+fault-requires c κs = search needs
 
 returns : tie.Need-returns
-returns c = counted (c .before .before .args .self) _ (c .executed-trade-count .ensures)
+returns c =
+    let own = c .before .fault in
+    refused _ _ (c .if1 .taken) ∙ ap (readCount _) (own .ensures)
+
+returns-2 : tie.Need-returns-2
+returns-2 c =
+    let own = c .before .fault in
+    counted _ _ (c .if1 .left) ∙ ap (readCount _) (own .ensures)
 
 pub executed-trade-count-spec : {M : Type 1} → statement M
-executed-trade-count-spec = tie.close (tie.spec executed-trade-count-requires returns)
+executed-trade-count-spec = tie.close (tie.spec fault-requires returns returns-2)

@@ -1,4 +1,4 @@
--- `UistBroker::fault` meets its contract: the exchange's 16. Assumes nothing.
+-- `UistBroker::fault` meets its contract: 16 by the counts and the lot. Assumes nothing.
 use borrow.Author.Needs.{needs}
 use Rattle.broker.proofs.state.UistBroker.fault.Statement.{statement}
 use Rattle.broker.proofs.state.UistBroker.fault.Tie as tie

@@ -14,7 +14,7 @@ use Rattle.broker.proofs.state.UistBroker.send_all.Tie as tie
 
 abbrev Inv-loop : tie.InvT-loop
 Inv-loop list portfolio latest funds book₀ counts₀ pending₀ awaited₀ events₀ i₀ book counts pending awaited events i =
-    Inv (brokerWith latest (portfolio .costs) funds book₀ counts₀ pending₀ awaited₀) list (brokerWith latest (portfolio .costs) funds book counts pending awaited) events i
+    Inv (brokerWith latest (portfolio .costs) (portfolio .lot) funds book₀ counts₀ pending₀ awaited₀) list (brokerWith latest (portfolio .costs) (portfolio .lot) funds book counts pending awaited) events i
 
 abbrev μ-loop : tie.MeasureT-loop
 μ-loop list portfolio latest funds book₀ counts₀ pending₀ awaited₀ events₀ i₀ book counts pending awaited events i = 256 - i
@@ -58,7 +58,7 @@ send-event-requires c κs = search needs
 abbrev present : (c : tie.At-loop Inv-loop μ-loop) → UistBroker
 present c =
     let portfolio = c .before .before .before .before .before .before .before .before .before .before .args .self .portfolio in
-    brokerWith (portfolio .latest) (portfolio .costs) (portfolio .funds) (c .loop .book) (c .loop .counts) (c .loop .pending) (c .loop .awaited)
+    brokerWith (portfolio .latest) (portfolio .costs) (portfolio .lot) (portfolio .funds) (c .loop .book) (c .loop .counts) (c .loop .pending) (c .loop .awaited)
 
 -- the order is taken only where one more fits
 fits : (c : tie.Then2 Inv-loop μ-loop) → Free (c .before .before .before .before .before .before .before .before .before .before .loop .counts)

@@ -9,7 +9,8 @@ use lib.ListN.{set}
 use Rattle.market.specs.Faults.{_draws_, drawn, unlessDrawn}
 use Rattle.market.specs.Orders.{eventOf}
 use Rattle.market.specs.declared.order.Order.{Order}
-use Rattle.exchange.proofs.Counting.{sound-facts, Free, join-place, join-book, join-counts}
+use Rattle.sender.proofs.Sounding.{counts-sound}
+use Rattle.exchange.proofs.Counting.{Free, join-place, join-book, join-counts}
 use Rattle.broker.specs.Lender.{broken, brokerFault}
 use Rattle.broker.proofs.Drawing.{drew, passed}
 use Rattle.sender.specs.Sender.{eventAt}
@@ -47,7 +48,7 @@ module _ (b : UistBroker) (o : Order) (e : OrderEvent) (n : ℕ) (is : n ≡ bro
 
     one-fits : e .fault ≡ 0 → Free (b .exchange .counts)
     one-fits y =
-        let s = sound-facts (b .exchange .counts) sound in
+        let s = counts-sound (b .exchange .counts) (b .portfolio .lot) sound in
         fits-here b o e q (record { places = s .together; rows = s .bounded }) y
 
     taken : (x : UistBroker) → x ≡ sentOne b o → answer x e ≡ sendOf b o

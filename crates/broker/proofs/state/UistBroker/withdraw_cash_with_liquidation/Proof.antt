@@ -5,7 +5,7 @@ use lib.Ieee.Scale.{finite}
 use borrow.Author.Needs.{needs}
 use borrow.Author.Tests.{not-true, not-false}
 use Rattle.broker.specs.Lender.{broken}
-use Rattle.exchange.proofs.Counting.{sound-facts}
+use Rattle.sender.proofs.Sounding.{counts-sound}
 use Rattle.broker.proofs.Drawing.{drew, passed}
 use Rattle.broker.proofs.Cashing.{liquidates}
 use Rattle.broker.proofs.Selling.{answers-broken, answers-not-finite, answers-by}
@@ -38,7 +38,7 @@ returns-2 c =
     liquidates _ _ _ (answers-not-finite (a .self) (a .cash) (not-broken (c .before .before)) (sym (c .before .finite .ensures) ∙ not-true _ (c .if2 .taken)))
 
 liquidate-requires : tie.Need-liquidate-requires
-liquidate-requires c κs = let s = sound-facts _ (not-broken (c .before .before)) in record { places = s .together; rows = s .bounded }
+liquidate-requires c κs = let b = c .before .before .before .before .args .self in let s = counts-sound (b .exchange .counts) (b .portfolio .lot) (not-broken (c .before .before)) in record { places = s .together; rows = s .bounded }
 
 returns-3 : tie.Need-returns-3
 returns-3 c =
