@@ -1,5 +1,6 @@
 // What a broker tells of itself. A call draws 16 where the counts do not hold together or the lot is
-// outside its range, then 1 for a symbol above 255, or 2 for an amount that is not finite; its value is then missing or 0.0.
+// outside its range, then 1 for a symbol above 255, or 2 for an amount that is not finite; its value
+// is then missing or 0.0.
 ghost use mathlib.Core.Path.{_≡_};
 ghost use Rattle.broker.specs.Lender.{brokerFault};
 ghost use Rattle.broker.specs.Read.{symbolFault, amountsFault, ReadsQuote, ReadsAmount, ReadsState, readFloat, readCount, readImpact, quoteOf, holdingOf, pendingOf, valueHere, valueSold, totalOf, liquidationOf, cashHere, impactOf, costsHere};

@@ -20,6 +20,7 @@ orderIn (Listed o) = some (o ∷ [])
 orderIn Nothing = some []
 orderIn Beyond = none
 
+-- a list's first `count` orders, with whether all of the walk's were found
 abbrev pub walkedOf : OrderList → ℕ → Bool → WantedList
 walkedOf l count found = record { list = record { orders = l .orders; count = count }; found = found }
 
