@@ -1,7 +1,7 @@
 """Compares the engine with the Rust and with document 01's model: generates scenarios from a seed, runs both
-programs on them, and says what was compared and whether there is a difference; then sees that the lying engines
-of liars.py are refused. Exit status 1 where there is a difference, a lying engine passes, or no damaged line was
-malformed for one of the reasons."""
+programs on them, and says what was compared and whether there is a difference; holds the program `quotes` to
+lines.py; then sees that the lying engines of liars.py are refused. Exit status 1 where there is a difference, a
+lying engine passes, or no damaged line was malformed for one of the reasons."""
 
 import argparse
 import os
@@ -21,6 +21,7 @@ import exhaustive
 import forms
 import judge
 import liars
+import lines as quote_lines
 import programs
 import scenarios
 import shorten
@@ -40,11 +41,13 @@ def options():
     parser.add_argument("--single-calls", type=int, default=None, help="with the unchanged Rust; a tenth if not given")
     parser.add_argument("--lot-calls", type=int, default=None, help="in scenarios with lots; a tenth if not given")
     parser.add_argument("--damaged", type=int, default=None, help="damaged lines; a twentieth if not given")
+    parser.add_argument("--texts", type=int, default=quote_lines.TEXTS, help="texts of quote lines")
     parser.add_argument("--log-rows", type=int, default=65536, help="the rows that the engine's log has")
     parser.add_argument("--liars", action="store_true", help="try the lying engines and nothing else")
     parser.add_argument("--driver", action="store_true",
                         help="hold the Rust's driver to forms.py on damaged lines and nothing else; needs no engine")
     parser.add_argument("--engine", default=os.path.join(ROOT, "target", "bin", "rehearse"))
+    parser.add_argument("--quotes", default=quote_lines.PROGRAM)
     parser.add_argument("--oracle", default=os.path.join(ROOT, "target", "oracle", "bent"))
     parser.add_argument("--unchanged", default=os.path.join(ROOT, "target", "oracle", "unchanged"))
     return parser.parse_args()
@@ -217,14 +220,22 @@ def compare(given):
     print("== meant differences\n%d scenarios, %d not as written" % (differences.count(), len(meant)))
     wrong = ends.check(given.engine)
     print("== how runs end\n%d ends, %d not as written" % (ends.count(), len(wrong)))
-    faults += meant + wrong + try_liars(given)
+    quoted = quote_lines.check(given.quotes, given.seed, given.texts)
+    faults += meant + wrong + quoted + try_liars(given)
     print("Took %d seconds." % (time.time() - started))
     return faults
 
 
+def needed(given):
+    """The programs that are run."""
+    if given.driver:
+        return [given.oracle]
+    return [given.engine, given.oracle, given.unchanged] + ([] if given.liars else [given.quotes])
+
+
 def main():
     given = options()
-    for path in [given.oracle] if given.driver else [given.engine, given.oracle, given.unchanged]:
+    for path in needed(given):
         if not os.access(path, os.X_OK):
             sys.exit("There is no program at %s." % path)
     if given.driver:

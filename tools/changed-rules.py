@@ -1,7 +1,9 @@
 """Tries the recorded answers (docs/RECORDED.md): changes the code behind one rule after the other in a copy of the
-tree, runs the changed program with no proof (`rt try rehearse`) on crates/rehearse/stdin, and says where its answers
-first differ from crates/rehearse/stdout. Prints a table. Exit status 1 where a change passes, or where a text to be
-changed is not there exactly once. With words, only the changes whose rule or text has one of them."""
+tree, runs the changed program with no proof (`rt try`), and says where it first writes something else than was
+recorded. The rules of the engine are shown by `rehearse` on crates/rehearse/stdin, those of quote lines by `quotes`, on
+crates/quotes/stdin or on a text of compare/quote-lines.txt. Prints a table for each program. Exit status 1 where a
+change passes, or where a text to be changed is not there exactly once. With words, only the changes whose rule or text
+has one of them."""
 
 import os
 import re
@@ -12,6 +14,11 @@ import tempfile
 
 ROOT = os.path.dirname(os.path.dirname(os.path.abspath(__file__)))
 ANSWERS = os.path.join(ROOT, "crates", "rehearse", "stdout")
+# Nothing is written beside the sources; compare/ has the recorded texts of quote lines.
+sys.dont_write_bytecode = True
+sys.path.insert(0, os.path.join(ROOT, "compare"))
+
+import line_texts
 
 # The rule's definition, by its file of specs/; the change in words; the case of crates/cases that refuses the same
 # change of the definition; the file below crates/; then old and new text, by turns.
@@ -384,6 +391,132 @@ CHANGES = [
      "std::num::truncating_f64_to_u64(a) as f64", "std::num::truncating_f64_to_u64(a + 0.5) as f64"),
 ]
 
+# The line of compare/quote-lines.txt that shows the change, or 0 where the program's recorded run does; then as above.
+# The cases are those of lines and numerals, and those of crates/cases.
+LINE_CHANGES = [
+    (30, "numerals/Numerals: noSpare", "a leading zero is taken", "2002", "numerals/src/decimal.rt",
+     "s[0] != b'0'", "true"),
+    (16, "numerals/Numerals: noSpare", "no digits are 0", "2002", "numerals/src/decimal.rt",
+     "return false;", "return true;"),
+    (35, "numerals/Numerals: decimalIn", "a to f are decimal digits", "2002", "numerals/src/decimal.rt",
+     "if d > 9 {", "if d > 15 {"),
+    (39, "numerals/Numerals: decimalIn", "the symbol wraps at 2 to the 64th", "2002", "numerals/src/decimal.rt",
+     "    if n > 922337203685477580 {\n        return 9223372036854775809;\n    }\n    n * 10 + d\n",
+     "    let two = std::num::wrapping_add_u64(n, n);\n    let four = std::num::wrapping_add_u64(two, two);\n"
+     "    let eight = std::num::wrapping_add_u64(four, four);\n"
+     "    std::num::wrapping_add_u64(std::num::wrapping_add_u64(eight, two), d)\n"),
+    (49, "numerals/Numerals: decimalIn", "digits past the nineteenth are passed over", "2002", "numerals/src/decimal.rt",
+     "return 9223372036854775809;", "return n;"),
+    (45, "numerals/Numerals: dateIn", "2 to the 63rd is a date", "2003", "numerals/src/decimal.rt",
+     "    number::positive(decimal(s))",
+     "    let x = decimal(s);\n    if let WholeRead::Of(n) = x {\n        if n == 9223372036854775808 {\n"
+     "            return SignedRead::Of(-9223372036854775808);\n        }\n    }\n    number::positive(x)"),
+    (53, "numerals/Numerals: dateIn", "a plus is taken", "2003", "numerals/src/decimal.rt",
+     "    if s[0] == b'-' {",
+     "    if s[0] == b'+' {\n        return number::positive(decimal(&s[1..]));\n    }\n    if s[0] == b'-' {"),
+    (50, "numerals/Numerals: negativeOf", "minus zero is taken", "2003", "numerals/src/decimal.rt",
+     "    if n == 0 {\n        return SignedRead::Malformed;\n    }\n", ""),
+    (46, "numerals/Numerals: negativeOf", "a date below the least is the least", "2003", "numerals/src/decimal.rt",
+     "    number::negated(x)",
+     "    if n > 9223372036854775808 {\n        return SignedRead::Of(-9223372036854775808);\n    }\n"
+     "    number::negated(x)"),
+    (0, "numerals/Numerals: negativeOf", "the least date is refused", "2003", "words/src/number.rt",
+     "return SignedRead::Of(-9223372036854775808);", "return SignedRead::Malformed;"),
+    (61, "numerals/Numerals: bitsIn", "upper-case digits are taken", "2004", "words/src/number.rt",
+     "    if byte < b'a' {",
+     "    if byte >= b'A' && byte <= b'F' {\n        return (byte - 55) as u64;\n    }\n    if byte < b'a' {"),
+    (65, "numerals/Numerals: bitsIn", "g is a digit", "2004", "words/src/number.rt",
+     "if byte <= b'f' {\n        return (byte - 87) as u64;", "if byte <= b'g' {\n        return (byte - 87) as u64 % 16;"),
+    (63, "numerals/Numerals: bitsIn", "fewer than 16 digits are taken", "2004", "words/src/number.rt",
+     "if s.len() != 16 {", "if s.len() > 16 {"),
+    (64, "numerals/Numerals: bitsIn", "17 digits are taken", "2004", "words/src/number.rt",
+     "if s.len() != 16 {", "if s.len() != 16 && s.len() != 17 {"),
+
+    (0, "numerals/Numerals: places", "9 has a spare zero", "2001", "numerals/src/spelled.rt",
+     "while rest > 9 {", "while rest > 8 {"),
+    (0, "numerals/Numerals: places", "10 has one digit", "2001", "numerals/src/spelled.rt",
+     "while rest > 9 {", "while rest > 10 {"),
+    (0, "numerals/Numerals: dateText", "-1 without its minus", "2001", "numerals/src/spelled.rt",
+     "if date >= 0 {", "if date >= -1 {"),
+    (0, "numerals/Numerals: glyph", "upper-case digits are written", "2001", "numerals/src/spelled.rt",
+     "87 + d as u8", "55 + d as u8"),
+    (0, "numerals/Numerals: lastDigits", "the last digit first", "2001", "numerals/src/spelled.rt",
+     "text[at + i] = glyph(rest % base);", "text[at + k - 1 - i] = glyph(rest % base);"),
+
+    (38, "lines/Lines: cappedQuote", "the symbol wraps at 2 to the 32nd", "2016", "lines/src/line.rt",
+     "if n > 255 { 256 } else { n as u32 }",
+     "if n % 4294967296 > 255 { 256 } else { (n % 4294967296) as u32 }"),
+    (36, "lines/Lines: cappedQuote", "a symbol above 255 is 255", "2016", "lines/src/line.rt",
+     "if n > 255 { 256 }", "if n > 255 { 255 }"),
+    (12, "lines/Lines: lineIn", "what stands behind the ask is passed over", "2012", "lines/src/line.rt",
+     "let ask = number::float(&s[start..]);",
+     "let last = word::next(s, start, b',', true);\n    let ask = number::float(&s[start..last]);"),
+    (0, "lines/Lines: quoteOf", "the ask is read before the bid", "2011", "lines/src/line.rt",
+     "bid: b,\n        ask: a,", "bid: a,\n        ask: b,"),
+    (0, "lines/Lines: lineText", "the ask is written before the bid", "2011", "lines/src/write.rt",
+     "spelled::float_text(q.bid), b','", "spelled::float_text(q.ask), b','",
+     "spelled::float_text(q.ask), b'\\n'", "spelled::float_text(q.bid), b'\\n'"),
+    (0, "lines/Lines: lineOf", "a carriage return is written", "2011", "lines/src/write.rt",
+     "b'\\n'", "b'\\r'"),
+    (0, "lines/Lines: textOf", "by descending symbol", "2017", "lines/src/write.rt",
+     "        let q = t.rows[i];\n        at = put_row(out, at, t.present[i], i as u64, q);",
+     "        let k = 255 - i;\n        let q = t.rows[k];\n        at = put_row(out, at, t.present[k], k as u64, q);"),
+    (0, "lines/Lines: textOf", "255 is left out", "2017", "lines/src/write.rt", "while i < 256 {", "while i < 255 {"),
+    (7, "lines/Reading: unfinished", "a last line without newline is taken", "2012", "lines/src/read.rt",
+     "        if end >= input.len() {\n            return refused(19);\n        }\n", ""),
+    (8, "lines/Reading: linesOf", "empty lines are passed over", "2012", "lines/src/read.rt",
+     "        let LineRead::Of(q)",
+     "        if end == at {\n            at = end + 1;\n            continue;\n        }\n        let LineRead::Of(q)"),
+    (11, "lines/Reading: linesOf", "a carriage return is passed over", "2012", "lines/src/read.rt",
+     "        let LineRead::Of(q) = line::line(&input[at..end])",
+     "        let mut last = end;\n        if end > at {\n            if input[end - 1] == b'\\r' {\n"
+     "                last = end - 1;\n            }\n        }\n"
+     "        let LineRead::Of(q) = line::line(&input[at..last])"),
+    (86, "lines/Reading: lineTests", "1 comes before 19", "2013", "lines/src/line.rt",
+     "    let SignedRead::Of(d) = date else {",
+     "    if n > 255 {\n        return LineRead::Of(Quote {\n            symbol: 256,\n            bid: 0.0,\n"
+     "            ask: 0.0,\n            date: 0,\n        });\n    }\n    let SignedRead::Of(d) = date else {"),
+    (88, "lines/Reading: lineTests", "2 comes before 19", "2013", "lines/src/line.rt",
+     "    let FloatRead::Of(a) = ask else {",
+     "    if b == 0.0 {\n        return LineRead::Of(Quote {\n            symbol: capped(n),\n            bid: b,\n"
+     "            ask: b,\n            date: d,\n        });\n    }\n    let FloatRead::Of(a) = ask else {"),
+    (93, "lines/Reading: readTests", "a later line's 19 comes first", "2013", "lines/src/read.rt",
+     "    let mut least: u32 = 0;", "    let mut least: u32 = 0;\n    let mut kept: u32 = 0;",
+     "            return refused(fault);", "            kept = fault;\n            at = end + 1;\n            continue;",
+     "        at = end + 1;\n    }\n", "        at = end + 1;\n    }\n    if kept != 0 {\n        return refused(kept);\n    }\n"),
+    (96, "lines/Reading: readTests", "20 at 65,536 bytes", "2015", "lines/src/read.rt",
+     "if input.len() > 65536 {", "if input.len() >= 65536 {"),
+    (97, "lines/Reading: readTests", "no 20 at 65,537 bytes", "2015", "lines/src/read.rt",
+     "if input.len() > 65536 {", "if input.len() > 65537 {"),
+    (100, "lines/Reading: readTests", "20 comes behind the lines' numbers", "2015", "lines/src/read.rt",
+     "    if input.len() > 65536 {\n        return refused(20);\n    }\n    lines_read(input)\n",
+     "    let x = lines_read(input);\n    if x.fault == 0 && input.len() > 65536 {\n        return refused(20);\n    }\n"
+     "    x\n"),
+
+    (81, "market/Rows: rowsTests", "a symbol may come twice", "204", "lines/src/read.rt",
+     "least = q.symbol + 1;", "least = q.symbol;"),
+    (84, "market/Rows: rowsTests", "a row is above the first, not the one before it", "204", "lines/src/read.rt",
+     "        least = q.symbol + 1;", "        if n == 1 {\n            least = q.symbol + 1;\n        }"),
+    (0, "market/Quotes: rowTests", "255 draws 1", "2017", "market/src/quote.rt",
+     "if self.symbol > 255 {", "if self.symbol > 254 {"),
+    (90, "market/Quotes: rowTests", "2 comes before 1", "205", "market/src/quote.rt",
+     "        if self.symbol > 255 {",
+     "        if !is_price(self.bid) {\n            return 2;\n        }\n        if self.symbol > 255 {"),
+    (91, "market/Quotes: rowTests", "3 comes before 2", "205", "market/src/quote.rt",
+     "        if !is_price(self.bid) {",
+     "        if self.symbol < least {\n            return 3;\n        }\n        if !is_price(self.bid) {"),
+    (68, "market/Quotes: rowTests", "the ask is not tested", "203", "market/src/quote.rt",
+     "        if !is_price(self.ask) {\n            return 2;\n        }\n", ""),
+    (67, "market/Quotes: isPrice", "zero is a price", "203", "market/src/quote.rt",
+     "{ x > 0.0 } else { false }", "{ x >= 0.0 } else { false }"),
+    (72, "market/Quotes: isPrice", "an infinity is a price", "203", "market/src/quote.rt",
+     "if floats::finite(x) { x > 0.0 } else { false }", "x > 0.0"),
+    (75, "market/Quotes: isPrice", "NaN is a price", "203", "market/src/quote.rt",
+     "if floats::finite(x) { x > 0.0 } else { false }", "if floats::finite(x) { x > 0.0 } else { x != x }"),
+    (0, "vendor/Answers: AnswersRead", "the last row is not stored", "", "vendor/src/store.rt",
+     "while i < n {", "while i + 1 < n {"),
+]
+
 
 def edited(crates, change):
     """Makes a change in a copy; false where its old text is not there exactly once."""
@@ -399,45 +532,84 @@ def edited(crates, change):
     return True
 
 
-def difference(said):
-    """Where the answers first differ, by what `rt try` says: the line of stdout, and the line of stdin it answers."""
+def place_of(said):
+    """The byte at which a program first writes something else, by what `rt try` says, or None."""
     at = re.search(r"at byte (\d+)", said)
-    if at is None:
-        return None
+    return None if at is None else int(at.group(1))
+
+
+def line_of_answers(at):
+    """The line of the recorded answers that has this byte, and the line of stdin it answers."""
     with open(ANSWERS, "rb") as answers:
-        lines = answers.read()[:int(at.group(1)) + 1].split(b"\n")
+        lines = answers.read()[:at + 1].split(b"\n")
     own = [line.split()[0].decode() for line in lines if line[:1].isdigit()]
     return "%d (stdin %s)" % (len(lines), own[-1] if own else "1")
 
 
-def tried(change):
-    """What becomes of a change: where it shows, or what is wrong with it."""
+def line_of_table(at):
+    """The line of the recorded table that has this byte."""
+    with open(os.path.join(ROOT, "crates", "quotes", "stdout"), "rb") as table:
+        return "stdout, line %d" % (table.read()[:at].count(b"\n") + 1)
+
+
+def given(crates, line):
+    """Puts a recorded text of quote lines, by its line, in the place of the program's recorded run."""
+    text, number = {at: case for at, *case in line_texts.recorded()}[line]
+    for name, data in (("stdin", text), ("stdout", b"%d\n" % number if number else text)):
+        with open(os.path.join(crates, "quotes", name), "wb") as file:
+            file.write(data)
+
+
+def tried(change, program, line):
+    """What becomes of a change: the byte at which it shows, or what is wrong with it. With a line, on that recorded text."""
     with tempfile.TemporaryDirectory() as copy:
         crates = os.path.join(copy, "crates")
         shutil.copytree(os.path.join(ROOT, "crates"), crates)
         shutil.copy(os.path.join(ROOT, "crates.txt"), copy)
         if not edited(crates, change):
             return None, "THE OLD TEXT IS NOT THERE ONCE"
-        run = subprocess.run(["rt", "try", "rehearse"], cwd=copy, capture_output=True, text=True)
+        if line:
+            given(crates, line)
+        run = subprocess.run(["rt", "try", program], cwd=copy, capture_output=True, text=True)
     said = run.stdout + run.stderr
     if run.returncode == 0:
         return None, "PASSES"
-    place = difference(said)
-    return place, place or "DOES NOT RUN: " + said.strip().split("\n")[0]
+    at = place_of(said)
+    return at, None if at is not None else "DOES NOT RUN: " + said.strip().split("\n")[0]
+
+
+def shown(change, program, line):
+    """Where a change shows, and true; or what is wrong with it, and false."""
+    at, wrong = tried(change, program, line)
+    if wrong is not None:
+        return wrong, False
+    if line:
+        return "quote-lines.txt, line %d" % line, True
+    return (line_of_answers if program == "rehearse" else line_of_table)(at), True
+
+
+def table(title, program, changes, words):
+    """Tries the changes of a program, each with its line, and prints their table; how many did not show."""
+    asked = [(line, change) for line, change in changes
+             if not words or any(word in change[0] + " " + change[1] for word in words)]
+    if asked:
+        print("| rule | change of the code | %s | case |\n|---|---|---|---|" % title)
+    bad = 0
+    for line, change in asked:
+        place, shows = shown(change, program, line)
+        bad += not shows
+        file, rule = change[0].split(": ")
+        print("| `%s` (%s) | %s | %s | %s |" % (rule, file, change[1], place, change[2]), flush=True)
+    if asked:
+        print()
+    return bad
 
 
 def main():
     words = sys.argv[1:]
-    print("| rule | change of the code | first line of stdout that differs | case |\n|---|---|---|---|")
-    bad = 0
-    for change in CHANGES:
-        if words and not any(word in change[0] + " " + change[1] for word in words):
-            continue
-        place, shown = tried(change)
-        bad += place is None
-        file, rule = change[0].split(": ")
-        print("| `%s` (%s) | %s | %s | %s |" % (rule, file, change[1], shown, change[2]), flush=True)
-    print("\n%d changes did not show" % bad if bad else "\nevery change shows")
+    bad = table("first line of stdout that differs", "rehearse", [(0, change) for change in CHANGES], words)
+    bad += table("what differs", "quotes", [(line, change) for line, *change in LINE_CHANGES], words)
+    print("%d changes did not show" % bad if bad else "every change shows")
     sys.exit(1 if bad else 0)
 
 

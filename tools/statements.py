@@ -11,6 +11,7 @@ PAGE = os.path.join(ROOT, "docs", "PROOFS.md")
 DEMAND = "crates/ledger/specs/Demand.antt"
 CLAIM = "crates/orders/specs/Claim.antt"
 FURTHER = "crates/ledger/specs/Consequences.antt"
+LINES = "crates/lines/specs/Claims.antt"
 
 
 def lines_of(path):
@@ -54,6 +55,12 @@ def statements():
         "What it is written with, in the same file": records(CLAIM, "CanTrade", "FirstTrade", "Life", "BookedBy", "Placed", "TradedAs", "OneRowEach"),
         "Two consequences, in `crates/ledger/specs/Consequences.antt`": block(
             item(FURTHER, "pub record NeverAtOnce"), item(FURTHER, "abbrev pub NoTwoRows")
+        ),
+        "The theorems about quote lines, in `crates/lines/specs/Claims.antt`": block(
+            item(LINES, "pub record Said"),
+            item(LINES, "abbrev pub LineForm"),
+            item(LINES, "pub record HeldRow"),
+            *[item(LINES, "abbrev pub " + name) for name in ("Held", "ReadsText", "OneText", "SameText", "TextFits")],
         ),
     }
 

@@ -1,6 +1,6 @@
 -- What the contracts are written with: lists, what may be missing, and an array with a list in its first places.
 -- Definitions only.
-use Prim.Native.Nat.{ℕ, suc, _+_}
+use Prim.Native.Nat.{ℕ, zero, suc, _+_}
 use mathlib.Core.Bool.{Bool, cond}
 use mathlib.Core.List.{List, [], _∷_, _++_}
 use mathlib.Core.Option.{Option, none, some}
@@ -13,6 +13,11 @@ over k l = k ++ drop (length k) l
 -- the list d with the rows l from place at on; what lies before them and past them is as it was
 abbrev pub stored : {A : Type 0} → List A → ℕ → List A → List A
 stored d at l = take at d ++ l ++ drop (at + length l) d
+
+-- n numbers from i on
+abbrev pub span : ℕ → ℕ → List ℕ
+span i zero = []
+span i (suc n) = i ∷ span (suc i) n
 
 -- the elements that pass the test, in their order
 abbrev pub keep : {A : Type 0} → (A → Bool) → List A → List A

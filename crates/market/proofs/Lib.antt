@@ -3,3 +3,4 @@ pub mod Faults
 pub mod Rows
 pub mod Tables
 pub mod Weights
+pub mod Listed

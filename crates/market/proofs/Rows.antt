@@ -42,7 +42,7 @@ supplier-laws symbolOf sound =
     }
 
 -- only where no number is drawn does it matter what is given then
-unless-same : {A : Type 0} (n : ℕ) (x y z : A) → (n ≡ 0 → x ≡ y) → unlessDrawn n x z ≡ unlessDrawn n y z
+pub unless-same : {A : Type 0} (n : ℕ) (x y z : A) → (n ≡ 0 → x ≡ y) → unlessDrawn n x z ≡ unlessDrawn n y z
 unless-same zero x y z e = e refl
 unless-same (suc n) x y z e = refl
 

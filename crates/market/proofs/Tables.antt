@@ -91,7 +91,7 @@ table-read rows n fault i t e r =
 -- ---- the row for a symbol
 
 -- rows that draw nothing have no symbol below the first's bound
-row-below : (least : ℕ) (l : List Quote) (n : ℕ) → drawn (tableTests least l) ≡ 0 → n < least → rowFor l n ≡ none
+pub row-below : (least : ℕ) (l : List Quote) (n : ℕ) → drawn (tableTests least l) ≡ 0 → n < least → rowFor l n ≡ none
 row-below least [] n e h = refl
 row-below least (q ∷ l) n e h =
     let d = rows-none least q l e in

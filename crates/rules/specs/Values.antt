@@ -1,19 +1,14 @@
 -- Values: document 01, section 4. Definitions only.
-use Prim.Native.Nat.{ℕ, zero, suc}
+use Prim.Native.Nat.{ℕ}
 use mathlib.Core.Bool.{false}
-use mathlib.Core.List.{List, [], _∷_, foldl}
+use mathlib.Core.List.{List, foldl}
 use mathlib.Core.Option.{Option, none, some}
 use lib.Ieee.{Float}
-use Rattle.lists.specs.Lists.{given}
+use Rattle.lists.specs.Lists.{given, span}
 use Rattle.market.specs.declared.quote.Quote.{Quote}
 use Rattle.costs.specs.Costs.{tradeImpactTotal}
 use Rattle.rules.specs.Amounts.{plus, times}
 use Rattle.rules.specs.Money.{Money}
-
--- n numbers from i on
-abbrev pub span : ℕ → ℕ → List ℕ
-span i zero = []
-span i (suc n) = i ∷ span (suc i) n
 
 -- the symbols, ascending: 0 to 255
 unfoldable pub symbols : List ℕ

@@ -13,7 +13,7 @@ at-most : (t : Bool) (n m : ℕ) → n ≤ m → cond t 0 (suc n) ≤ suc m
 at-most true n m h = omega arith
 at-most false n m h = omega arith
 
-drop-min : (l : List ℕ) (i n : ℕ) → drop (min i (length l) + n) l ≡ drop n (drop i l)
+pub drop-min : (l : List ℕ) (i n : ℕ) → drop (min i (length l) + n) l ≡ drop n (drop i l)
 drop-min l zero n = let e : min 0 (length l) + n ≡ n = omega arith in ap (λ (k : ℕ). drop k l) e
 drop-min [] (suc i) n = drop-nil (min (suc i) 0 + n) ∙ sym (drop-nil n)
 drop-min (x ∷ l) (suc i) n =

@@ -26,7 +26,7 @@ pub enum FloatRead {
 }
 
 // The value of a digit, `0` to `9` and then `a` to `f`, or 16.
-fn digit(byte: u8) -> u64
+pub fn digit(byte: u8) -> u64
     ensures { λ r. ⌜ r ≡ digitOf byte ⌝ }
 {
     if byte < b'0' {
@@ -97,7 +97,7 @@ pub fn symbol(s: &[u8]) -> SymbolRead
     SymbolRead::Of(n as u32)
 }
 
-fn positive(x: WholeRead) -> SignedRead
+pub fn positive(x: WholeRead) -> SignedRead
     ensures { λ r. ⌜ signedIn r ≡ positiveOf (wholeIn x) ⌝ }
 {
     let WholeRead::Of(n) = x else {
@@ -109,7 +109,7 @@ fn positive(x: WholeRead) -> SignedRead
     SignedRead::Of(n as i64)
 }
 
-fn negated(x: WholeRead) -> SignedRead
+pub fn negated(x: WholeRead) -> SignedRead
     ensures { λ r. ⌜ signedIn r ≡ negatedOf (wholeIn x) ⌝ }
 {
     let WholeRead::Of(n) = x else {

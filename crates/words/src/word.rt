@@ -11,7 +11,7 @@ pub struct Word {
 
 // Where the first byte at or after `at` is that is `byte`, or with `is` false another one; the text's
 // end where there is no such byte.
-fn next(s: &[u8], at: usize, byte: u8, is: bool) -> usize
+pub fn next(s: &[u8], at: usize, byte: u8, is: bool) -> usize
     ensures { λ r. ⌜ r ≡ place (isByte byte is) (now (s .entry)) at ⌝ }
 {
     let mut i = at;
