@@ -75,6 +75,21 @@ def check_empty():
     yield from ("clock", "state")
 
 
+def delete():
+    """The newest of 1,024 resting orders leaves, then the newest of the rest, until the book is empty; what fills it again is
+    not timed."""
+    yield from started(Prices(100).next_day(), 10000000.0)
+    for turn in range(50):
+        for i in range(1024):
+            yield lines.order("insert", ("lb", i % 100, 1.0, 1.0))
+        yield lines.check([], [])
+        yield "clock"
+        for i in reversed(range(1024)):
+            yield lines.delete(turn * 1024 + i)
+        yield "clock"
+    yield "state"
+
+
 def send():
     """Market buys of 1 share, a thousand at a time; two checks between, which trade them, are not timed."""
     rows = Prices(100).next_day()
@@ -115,6 +130,7 @@ def cost_basis():
 SCENARIOS = {f"update-{n}": ("update", n, lambda n=n: update(n)) for n in UPDATE_DAYS} | {
     "check-resting": ("check, 1,024 resting", 100, check_resting),
     "check-empty": ("check, empty book and tables", 0, check_empty),
+    "delete": ("deletion, up to 1,024 resting", 100, delete),
     "send": ("send of one order", 1, send),
     "deposit": ("deposit", 0, deposit),
     "cost-basis": ("cost basis, 50,000 trades", 1, cost_basis),

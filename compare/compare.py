@@ -15,6 +15,7 @@ sys.dont_write_bytecode = True
 sys.path.insert(0, os.path.join(ROOT, "tools"))
 
 import damage
+import deletions
 import differences
 import ends
 import exhaustive
@@ -179,9 +180,10 @@ def try_liars(given):
 
 
 def compare_main(given):
-    """The engine beside the bent Rust: every short scenario, then random ones."""
+    """The engine beside the bent Rust: every short scenario, deletions from a full book, then random ones."""
     part = Comparison(given.engine, given.oracle, "bent")
     part.run(exhaustive.scenarios())
+    part.run(deletions.scenarios())
     part.run(scenarios.scenarios(given.seed), given.calls)
     table.summary("the engine beside the Rust, bent (seed %d)" % given.seed, part.tally)
     return part.faults
@@ -190,6 +192,7 @@ def compare_main(given):
 def compare_single(given):
     calls = given.calls // 10 if given.single_calls is None else given.single_calls
     part = Comparison(given.engine, given.unchanged, "unchanged")
+    part.run(deletions.single_scenarios())
     part.run(scenarios.single_scenarios(given.seed + 1), calls)
     table.summary("the engine beside the unchanged Rust", part.tally)
     return part.faults

@@ -266,6 +266,17 @@ CHANGES = [
      "        if self.resting + self.waits == Counts::WIDTH {\n            return 11;\n        }\n"
      "        if self.taken == self.room {\n            return 10;\n        }\n        if self.resting > Counts::WIDTH {"),
 
+    ("exchange/Delete: deleteOf", "places from 255 on are not looked at", "", "exchange/src/delete.rt",
+     "while (i as usize) < resting {", "while (i as usize) < resting && i < 255 {"),
+    ("exchange/Delete: deleteOf", "the order behind the one of that number leaves", "", "exchange/src/delete.rt",
+     "return Place::At(at);", "return Place::At(at + 1);"),
+    ("exchange/Delete: deleteOf", "a waiting order leaves", "", "exchange/src/delete.rt",
+     "place_of(book, c.resting, order_id)", "place_of(book, c.resting + c.waits, order_id)"),
+    ("exchange/Delete: hasNumber", "numbers are compared in sixteen bits", "", "exchange/src/delete.rt",
+     "if b.id == order_id {", "if b.id % 65536 == order_id % 65536 {"),
+    ("exchange/Delete: hasNumber", "numbers are compared in 32 bits", "", "exchange/src/delete.rt",
+     "if b.id == order_id {", "if b.id % 4294967296 == order_id % 4294967296 {"),
+
     ("rules/Basis: cleared", "quantity zero keeps the value", "482", "portfolio/src/basis.rt",
      "quantity: quantity,\n            value: 0.0,", "quantity: quantity,\n            value: value,"),
     ("rules/Basis: basisStep", "a sale adds its value", "481", "portfolio/src/basis.rt",

@@ -19,15 +19,17 @@ enum Place {
     Nowhere,
 }
 
+// Sixteen bits count the places (document 02, request 3), of which the book has 1,024; a number has 64.
 fn place_of(book: [Booked; 1024], resting: usize, order_id: u64) -> Place
     requires { ⌜ resting ≤ 1024 ⌝ }
     ensures { λ r. ⌜ placeIn r ≡ firstFrom 0 (hasNumber «order_id») (take resting book) ⌝ }
 {
-    let mut i: usize = 0;
-    while i < resting {
-        let b = book[i];
+    let mut i: u16 = 0;
+    while (i as usize) < resting {
+        let at = i as usize;
+        let b = book[at];
         if b.id == order_id {
-            return Place::At(i);
+            return Place::At(at);
         }
         i = i + 1;
     }

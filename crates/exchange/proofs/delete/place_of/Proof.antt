@@ -16,6 +16,12 @@ abbrev μ-loop : tie.MeasureT-loop
 loop-holds : tie.Need-loop-holds Inv-loop μ-loop
 loop-holds c = sought-start _ _ _ (c .pre) (c .good .0 .1 .0 .1)
 
+cast-loop : tie.Need-cast-loop Inv-loop μ-loop
+cast-loop c = omega arith
+
+cast-at : tie.Need-cast-at Inv-loop μ-loop
+cast-at c = omega arith
+
 mul-b : tie.Need-mul-b Inv-loop μ-loop
 mul-b c = omega arith
 
@@ -48,6 +54,8 @@ place-of-spec =
     Inv-loop
     μ-loop
     loop-holds
+    cast-loop
+    cast-at
     mul-b
     array-copy-out-b
     returns
