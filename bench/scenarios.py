@@ -110,19 +110,33 @@ def deposit():
     yield from ("clock", "state")
 
 
-def cost_basis():
-    """The bases of 10 symbols, each 50 times, after 50,000 trades."""
+def traded(kinds):
+    """50,000 trades of 10 symbols, by a thousand orders at a time: one of each symbol, of the first of these kinds, then of the
+    next, and again from the first."""
     prices = Prices(10)
     yield from started(prices.next_day(), 1000000000.0)
     for _ in range(50):
         for i in range(1000):
-            yield lines.order("send", ("mb", i % 10, 1.0, None))
+            yield lines.order("send", (kinds[i // 10 % len(kinds)], i % 10, 1.0, None))
         for _ in range(2):
             rows = prices.next_day()
             yield lines.check(rows, rows)
+
+
+def cost_basis():
+    """The bases of 10 symbols, each 50 times, after 50,000 trades."""
+    yield from traded(["mb"])
     yield "clock"
     for i in range(500):
         yield lines.read("cost_basis", i % 10)
+    yield from ("clock", "state")
+
+
+def turnover():
+    """The turnover, 500 times, after 50,000 trades, half of them sales."""
+    yield from traded(["mb", "ms"])
+    yield "clock"
+    yield from [lines.read("turnover")] * 500
     yield from ("clock", "state")
 
 
@@ -134,6 +148,7 @@ SCENARIOS = {f"update-{n}": ("update", n, lambda n=n: update(n)) for n in UPDATE
     "send": ("send of one order", 1, send),
     "deposit": ("deposit", 0, deposit),
     "cost-basis": ("cost basis, 50,000 trades", 1, cost_basis),
+    "turnover": ("turnover, 50,000 trades", 10, turnover),
 }
 
 

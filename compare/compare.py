@@ -27,6 +27,7 @@ import programs
 import scenarios
 import shorten
 import table
+import turnovers
 from play import Due
 
 FOLDER = os.path.join(ROOT, "target", "compare")
@@ -180,10 +181,11 @@ def try_liars(given):
 
 
 def compare_main(given):
-    """The engine beside the bent Rust: every short scenario, deletions from a full book, then random ones."""
+    """The engine beside the bent Rust: every short scenario, deletions from a full book, turnovers, then random ones."""
     part = Comparison(given.engine, given.oracle, "bent")
     part.run(exhaustive.scenarios())
     part.run(deletions.scenarios())
+    part.run(turnovers.scenarios())
     part.run(scenarios.scenarios(given.seed), given.calls)
     table.summary("the engine beside the Rust, bent (seed %d)" % given.seed, part.tally)
     return part.faults
@@ -193,6 +195,7 @@ def compare_single(given):
     calls = given.calls // 10 if given.single_calls is None else given.single_calls
     part = Comparison(given.engine, given.unchanged, "unchanged")
     part.run(deletions.single_scenarios())
+    part.run(turnovers.scenarios())
     part.run(scenarios.single_scenarios(given.seed + 1), calls)
     table.summary("the engine beside the unchanged Rust", part.tally)
     return part.faults

@@ -119,7 +119,7 @@ class Model:
         self.failed = False
         self.waiting, self.resting = [], []
         self.taken = self.given = 0
-        self.trades, self.turnover, self.bought = [], 0.0, {}
+        self.trades, self.sums, self.bought = [], {"buy": 0.0, "sell": 0.0}, {}
         self.silent = []
         number = self.build_fault(lot, costs, first)
         self.dead = number != 0
@@ -171,6 +171,11 @@ class Model:
         """The cost basis, or None."""
         quantity, value = self.bought.get(symbol, (0.0, 0.0))
         return None if quantity == 0.0 else div(value, quantity)
+
+    def turnover(self):
+        """Document 02, request 4: the bought sum where it is below the sold one, else the sold one."""
+        bought, sold = self.sums["buy"], self.sums["sell"]
+        return bought if bought < sold else sold
 
     def rows(self, verb):
         """How many rows a read of one of the broker's lists has."""
@@ -307,10 +312,10 @@ class Model:
                 kept[symbol] = amount
 
     def log_trade(self, trade):
-        """The log with the trade, and what is folded from it: turnover, and a symbol's quantity and value."""
+        """The log with the trade, and what is folded from it: the sum of its side, and a symbol's quantity and value."""
         side, symbol, shares, value, _date = trade
         self.trades.append(trade)
-        self.turnover += value
+        self.sums[side] += value
         quantity, sum_ = self.bought.get(symbol, (0.0, 0.0))
         if side == "buy":
             quantity, sum_ = quantity + shares, sum_ + value

@@ -11,7 +11,7 @@ FIGURES = {
     "get_total_value": lambda model: text(model.total()),
     "get_liquidation_value": lambda model: text(model.liquidation_value()),
     "get_cash_balance": lambda model: text(model.cash),
-    "turnover": lambda model: text(model.turnover),
+    "turnover": lambda model: text(model.turnover()),
     "get_broker_state": lambda model: state_word(model),
     "executed_trade_count": lambda model: str(len(model.trades)),
 }
@@ -133,7 +133,7 @@ class View:
         new = [] if refused else [words.trade(row) for row in model.trades[self.shown:]]
         self.shown += len(new)
         return "\n".join([
-            money(model, "refused 16" if refused else text(model.turnover)),
+            money(model, "refused 16" if refused else text(model.turnover())),
             titled("held", entries(model.held)),
             titled("pending", entries(model.pending)),
             titled("latest", quotes(model.latest)),

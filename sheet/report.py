@@ -69,7 +69,7 @@ def fact_lines(found, currency):
     yield "time-weighted return a year", percent(found.a_year)
     yield "volatility a year", percent(found.volatility)
     yield "largest fall", fall_text(found.fall)
-    yield "turnover (sum of all trades)", f"{money(found.turnover)} {currency}"
+    yield "turnover", f"{money(found.turnover)} {currency}, the lesser of bought and sold"
     yield "trades", f"{found.trades:,}"
     yield "refused", f"{found.refused:,}"
 

@@ -40,7 +40,7 @@ class Lots(places.Folder):
         self.assertEqual([f"{float(day['cash']):.2f}" for day in evenings],
                          ["10000.00"] * 2 + ["1134.50"] * 3 + ["1634.50"] * 2 + ["882.75"] * 3)
         self.assertEqual([figures[name] for name in ("final value", "turnover", "trades", "refused")],
-                         ["10560.25", "9617.25", "4", "0"])
+                         ["10560.25", "0.00", "4", "0"])
         self.assertIn("whole lots of 5 shares", files["sheet.txt"])
 
     def test_scenario(self):

@@ -106,11 +106,11 @@ class TwoFunds(unittest.TestCase):
         self.assertIn("2.57%, from 2021-01-25 to 2021-02-01", self.text)
 
     def test_the_sheet(self):
-        # Turnover: 9,473.90 + 500.90. Cost basis of the bond fund: 3,550.50 / 71; of the equity fund: 6,424.30 / 63.
-        for said in ("10,561.45 euros on 2021-02-05", "10,500.00 euros", "9,974.80 euros", "50.01", "101.97", "not taken from cash"):
+        # Turnover: nothing was sold. Cost basis of the bond fund: 3,550.50 / 71; of the equity fund: 6,424.30 / 63.
+        for said in ("10,561.45 euros on 2021-02-05", "10,500.00 euros", "0.00 euros, the lesser of bought and sold", "50.01", "101.97", "not taken from cash"):
             self.assertIn(said, self.text)
         self.assertEqual([self.figures[name] for name in ("final value", "paid in", "paid out", "turnover", "trades", "refused")],
-                         ["10561.45", "10500.00", "0.00", "9974.80", "4", "0"])
+                         ["10561.45", "10500.00", "0.00", "0.00", "4", "0"])
 
     def test_written(self):
         self.assertEqual(sorted(os.listdir(self.folder)), sorted(self.files))

@@ -13,7 +13,8 @@ use Rattle.rules.specs.Money.{fetched, settled, expected, failedIf}
 use Rattle.rules.specs.Values.{symbols, totalValue, liquidationValue}
 use Rattle.rules.specs.Liquidation.{salesFrom, salesFor, debitedBy}
 use Rattle.rules.specs.Weights.{sharesFor, orderFor, wanted, planOf}
-use Rattle.rules.specs.Basis.{basisStep, costBasis, turnover}
+use Rattle.rules.specs.Basis.{basisStep, costBasis}
+use Rattle.turnover.specs.Turnover.{turnover}
 use Rattle.ledger.specs.Ledger.{start, sendEvent, sendEvents, insertEvent, inserting, rescuing, callTests, acting, step, answerAs, run, answers}
 use Rattle.ledger.specs.Ledger as Ledger
 use Rattle.ledger.specs.Examples.{AllHold}
@@ -26,6 +27,7 @@ use Rattle.cases.specs.Liquidating.{liquidating}
 use Rattle.cases.specs.Checking.{checking}
 use Rattle.cases.specs.Weighing.{weighing}
 use Rattle.cases.specs.Lots.{lots}
+use Rattle.cases.specs.Turnovers.{turnovers}
 use Rattle.cases.specs.Cases.{Cases}
 
 figures-hold : AllHold figures
@@ -53,8 +55,8 @@ unfolding Ieee.ofInt Ieee.sub Ieee.mul Ieee.ofBits tradeImpact tradeImpactTotal 
 valuing-hold = (refl, (refl, (refl, (refl, (refl, (refl, (refl, (refl, _))))))))
 
 folding-hold : AllHold folding
-unfolding Ieee.le Ieee.ofInt Ieee.sub Ieee.div Ieee.ofBits basisStep costBasis turnover
-folding-hold = (refl, (refl, (refl, (refl, _))))
+unfolding Ieee.le Ieee.ofInt Ieee.sub Ieee.div Ieee.ofBits basisStep costBasis
+folding-hold = (refl, (refl, _))
 
 liquidating-hold : AllHold liquidating
 unfolding Ieee.le Ieee.ofInt Ieee.sub Ieee.mul Ieee.div Ieee.ofBits ceilOf drawn tradeImpact tradeImpactTotal symbols liquidationValue expected salesFrom salesFor debitedBy sendEvent Ledger.sending Ledger.liquidating callTests acting step answerAs
@@ -72,5 +74,9 @@ lots-hold : AllHold lots
 unfolding Ieee.le Ieee.ofInt Ieee.sub Ieee.mul Ieee.div Ieee.ofBits floorOf ceilOf lotOf lotShares drawn tradeOn tradeImpact tradeImpactTotal symbols totalValue liquidationValue fetched settled expected failedIf salesFrom salesFor sharesFor orderFor wanted planOf start sendEvent Ledger.sending sendEvents rescuing Ledger.checking callTests acting step answerAs run
 lots-hold = (refl, (refl, (refl, (refl, (refl, (refl, (refl, (refl, (refl, (refl, (refl, (refl, (refl, (refl, (refl, (refl, (refl, _)))))))))))))))))
 
+turnovers-hold : AllHold turnovers
+unfolding Ieee.lt Ieee.add Ieee.ofInt Ieee.ofBits turnover
+turnovers-hold = (refl, (refl, (refl, (refl, (refl, (refl, (refl, (refl, _))))))))
+
 pub cases : Cases
-cases = (figures-hold, tables-hold, trading-hold, sending-hold, booking-hold, valuing-hold, folding-hold, liquidating-hold, checking-hold, weighing-hold, lots-hold)
+cases = (figures-hold, tables-hold, trading-hold, sending-hold, booking-hold, valuing-hold, folding-hold, liquidating-hold, checking-hold, weighing-hold, lots-hold, turnovers-hold)

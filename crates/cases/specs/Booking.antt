@@ -1,4 +1,4 @@
--- Cases of document 01, section 4: what a trade makes of cash, holdings and pending; latest quotes; values; cost basis and turnover. Definitions only.
+-- Cases of document 01, section 4: what a trade makes of cash, holdings and pending; latest quotes; values; cost basis. Definitions only.
 use Prim.Native.Nat.{ℕ}
 use mathlib.Core.List.{List, [], _∷_, map}
 use mathlib.Core.Option.{Option, none, some}
@@ -8,7 +8,7 @@ use Rattle.market.specs.declared.trade.Trade.{Trade}
 use Rattle.market.specs.declared.trade.TradeType.the-variants.{Buy, Sell}
 use Rattle.costs.specs.declared.BrokerCost.{BrokerCost}
 use Rattle.costs.specs.declared.BrokerCost.the-variants.{PerShare, PctOfValue, Flat}
-use Rattle.rules.specs.Basis.{costBasis, turnover}
+use Rattle.rules.specs.Basis.{costBasis}
 use Rattle.rules.specs.Money.{Money, fetched, settled}
 use Rattle.rules.specs.Values.{valueOf, totalValue, liquidationValue}
 use Rattle.ledger.specs.Examples.{Example, example, num, halves, quote}
@@ -82,14 +82,11 @@ valuing =
     -- the same with a part 0.5 of the values 2, 2 and 4
     example 448 (liquidationValue (large (PctOfValue (halves 1) ∷ []) 2)) even+2 ∷ []
 
--- a log of three symbols, and one of three values
+-- a log of three symbols
 abbrev log : List Trade
 log =
     tradeAt Buy 1 (num 10) (num 100) (pos 1) ∷ tradeAt Buy 2 (num 4) (num 80) (pos 1) ∷
     tradeAt Buy 1 (num 10) (num 140) (pos 2) ∷ tradeAt Sell 1 (num 5) (num 90) (pos 3) ∷ tradeAt Sell 3 (num 2) (num 24) (pos 3) ∷ []
-
-abbrev values : Float → Float → Float → List Trade
-values x y z = tradeAt Buy 1 (num 1) x (pos 1) ∷ tradeAt Sell 2 (num 1) y (pos 1) ∷ tradeAt Buy 1 (num 1) z (pos 1) ∷ []
 
 abbrev pub folding : List Example
 folding =
@@ -98,8 +95,4 @@ folding =
     -- quantity zero clears value: -24 + 30 is cleared with -2 + 2, so that 1 for 7 has the basis 7
     example 482
     (map (λ l. costBasis l 3) ((tradeAt Sell 3 (num 2) (num 24) (pos 1) ∷ tradeAt Buy 3 (num 2) (num 30) (pos 2) ∷ tradeAt Buy 3 (num 1) (num 7) (pos 3) ∷ []) ∷ [] ∷ []))
-    (some (num 7) ∷ none ∷ []) ∷
-    -- turnover, buys and sales alike: 100 + 80 + 140 + 90 + 24; none: 0.0
-    example 701 (map turnover (log ∷ [] ∷ [])) (num 434 ∷ num 0 ∷ []) ∷
-    -- in log order: 1 and 1 before 9,007,199,254,740,992 are 2 more, after it nothing
-    example 702 (map turnover (values (num 1) (num 1) even ∷ values even (num 1) (num 1) ∷ [])) (even+2 ∷ even ∷ []) ∷ []
+    (some (num 7) ∷ none ∷ []) ∷ []

@@ -9,4 +9,5 @@ pub mod Liquidating
 pub mod Checking
 pub mod Weighing
 pub mod Lots
+pub mod Turnovers
 pub mod Cases

@@ -1,12 +1,12 @@
 -- The contracts of the functions that are proved by hand and called by another, as the borrow logic takes them. Assumes nothing.
 use Rattle.market.specs.Quotes.{tableOf}
-use Rattle.rules.specs.Basis.{turnover}
-use Rattle.slices.proofs.Derivation.{Contract, true, false, _≡_, _≤_, [], _∷_, length, take, R, rV, pShrS, pNum, rFloat, binary64, w32, w64}
+use Rattle.turnover.specs.Turnover.{turnoverSums}
+use Rattle.slices.proofs.Derivation.{Contract, true, false, _≡_, _≤_, [], _∷_, length, take, R, rV, pShrS, pNum, w32, w64}
 use Rattle.portfolio.specs.Basis.{basisIn}
 use Rattle.lent.specs.Logs.{basisOver}
 use Rattle.lent.specs.Walks.{ReadsWeights}
 use Rattle.lent.proofs.Rows.{quote, table, trade}
-use Rattle.lent.proofs.UistRows.{basis, weight, weights}
+use Rattle.lent.proofs.UistRows.{basis, sums, weight, weights}
 
 abbrev pub read-table : Contract
 read-table = record { n = 1; ps = pShrS (R quote) 0 tt ∷ []; r = rV table; requires = false; Pre = λ κs a. Unit {0}; Post = λ κs a z e. z .table ≡ tableOf (a .0 .now) }
@@ -28,8 +28,8 @@ abbrev pub fold-turnover : Contract
 fold-turnover = record {
   n = 1;
   ps = pShrS (R trade) 0 tt ∷ pNum w64 ∷ [];
-  r = rFloat binary64;
+  r = rV sums;
   requires = true;
   Pre = λ κs a. a .1 .0 ≤ length (a .0 .now);
-  Post = λ κs a z e. z ≡ turnover (take (a .1 .0) (a .0 .now));
+  Post = λ κs a z e. z ≡ turnoverSums (take (a .1 .0) (a .0 .now));
 }

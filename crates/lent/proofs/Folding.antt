@@ -1,6 +1,6 @@
 -- The folds of a log's first rows: one row more, and the answers that they come to. Assumes nothing.
 use Prim.Native.Nat.{ℕ, _+_, _<_}
-use mathlib.Core.Path.{_≡_, refl, _∙_, ap, subst}
+use mathlib.Core.Path.{_≡_, _∙_, ap, subst}
 use mathlib.Core.List.{List, foldl, foldl-append}
 use mathlib.Core.Option.{none}
 use native.Mathlib.Numerals.{add-one}
@@ -10,9 +10,10 @@ use lib.Seq.{take-suc}
 use Rattle.market.specs.Faults.{unlessDrawn}
 use Rattle.market.specs.Orders.{zero64}
 use Rattle.market.specs.declared.trade.Trade.{Trade}
-use Rattle.rules.specs.Amounts.{plus}
 use Rattle.rules.specs.Basis as Rules
-use Rattle.rules.specs.Basis.{basisOf, costBasis, addTurnover, turnover}
+use Rattle.rules.specs.Basis.{basisOf, costBasis}
+use Rattle.turnover.specs.Turnover.{turnoverSums, lesser, turnover}
+use Rattle.turnover.specs.declared.Sums.{Sums}
 use Rattle.broker.specs.Read.{ReadsAmount, readFloat}
 use Rattle.broker.specs.declared.state.UistBroker.{UistBroker}
 use Rattle.broker.specs.declared.read.AmountRead.{AmountRead}
@@ -23,16 +24,12 @@ use Rattle.lent.proofs.Faults.{unless-same}
 -- ---- steps
 
 module _ {A : Type 0} (f : A → Trade → A) (a : A) where
-  pub fold-more : (l : List Trade) (i : ℕ) (d : Trade) → i < length l → f (foldl f a (take i l)) (getD l i d) ≡ foldl f a (take (i + 1) l)
+  fold-more : (l : List Trade) (i : ℕ) (d : Trade) → i < length l → f (foldl f a (take i l)) (getD l i d) ≡ foldl f a (take (i + 1) l)
   fold-more l i d h = rw (add-one, take-suc l i d, foldl-append)
 
-pub turnover-more : (l : List Trade) (i : ℕ) (d : Trade) (x v : Float) → i < length l → x ≡ turnover (take i l) → v ≡ getD l i d .value → plus x v ≡ turnover (take (i + 1) l)
-unfolding turnover
-turnover-more l i d x v h e w = ap (λ (y : Float). plus x y) w ∙ ap (λ (y : Float). plus y (getD l i d .value)) e ∙ fold-more addTurnover zero64 l i d h
-
-pub turnover-none : (l : List Trade) → zero64 ≡ turnover (take 0 l)
-unfolding turnover
-turnover-none l = refl
+  -- a turn of a fold's loop: x is folded from the rows before i, y from x and row i
+  pub fold-turn : (l : List Trade) (i : ℕ) (d : Trade) (x y : A) → i < length l → x ≡ foldl f a (take i l) → y ≡ f x (getD l i d) → y ≡ foldl f a (take (i + 1) l)
+  fold-turn l i d x y h e g = g ∙ ap (λ (z : A). f z (getD l i d)) e ∙ fold-more l i d h
 
 -- ---- answers
 
@@ -50,9 +47,9 @@ module _ (b : UistBroker) (log : List Trade) (m n : ℕ) (rows : n ≡ unlessDra
         fault = a .fault;
       })
 
-  pub reads-turnover : (v : Float) (r : FloatRead) → m ≡ turnoverFault b log → v ≡ turnover (take n log) → r ≡ readFloat v m → r ≡ readFloat (turnover (loggedIn b log)) (turnoverFault b log)
-  unfolding readFloat
-  reads-turnover v r e f a =
+  pub reads-turnover : (s : Sums) (v : Float) (r : FloatRead) → m ≡ turnoverFault b log → s ≡ turnoverSums (take n log) → v ≡ lesser s → r ≡ readFloat v m → r ≡ readFloat (turnover (loggedIn b log)) (turnoverFault b log)
+  unfolding readFloat turnover
+  reads-turnover s v r e f g a =
       a
-      ∙ ap (λ (y : Float). record { value = y; fault = m }) (unless-same m v (turnover (loggedIn b log)) zero64 (λ z. f ∙ ap turnover (logged-rows z)))
+      ∙ ap (λ (y : Float). record { value = y; fault = m }) (unless-same m v (turnover (loggedIn b log)) zero64 (λ z. g ∙ ap lesser (f ∙ ap turnoverSums (logged-rows z))))
       ∙ ap (λ (k : ℕ). readFloat (turnover (loggedIn b log)) k) e

@@ -2,6 +2,7 @@
 use Rattle.broker.specs.Lent.{buildFor}
 use Rattle.broker.specs.Read.{ReadsAmount, readFloat}
 use Rattle.rules.specs.Basis as Rules
+use Rattle.turnover.specs.Turnover as Turnover
 use Rattle.slices.proofs.Derivation.{Contract, false, _≡_, [], _∷_, R, pV, rV, pShrS, pMutS, pNum, w32}
 use Rattle.lent.specs.Logs.{loggedIn, turnoverFault, basisFault}
 use Rattle.lent.specs.Answers.{AnswersCheck, AnswersSend, AnswersWalk, AnswersUpdate}
@@ -76,5 +77,5 @@ turnover = record {
   r = rV float-read;
   requires = false;
   Pre = λ κs a. Unit {0};
-  Post = λ κs a z e. z ≡ readFloat (Rules.turnover (loggedIn (a .0) (a .1 .0 .now))) (turnoverFault (a .0) (a .1 .0 .now));
+  Post = λ κs a z e. z ≡ readFloat (Turnover.turnover (loggedIn (a .0) (a .1 .0 .now))) (turnoverFault (a .0) (a .1 .0 .now));
 }

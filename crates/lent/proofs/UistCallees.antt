@@ -11,10 +11,18 @@ use Rattle.portfolio.proofs.basis.basis_step.Kinds as basis-step-Kinds
 use Rattle.portfolio.proofs.basis.basis_step.Reads as basis-step-Reads
 use Rattle.portfolio.proofs.basis.basis_step.Symbol as basis-step-Symbol
 use Rattle.portfolio.proofs.basis.basis_step.Met as basis-step-Met
-use Rattle.lent.proofs.folds.value_of.Kinds as value-of-Kinds
-use Rattle.lent.proofs.folds.value_of.Reads as value-of-Reads
-use Rattle.lent.proofs.folds.value_of.Symbol as value-of-Symbol
-use Rattle.lent.proofs.folds.value_of.Met as value-of-Met
+use Rattle.turnover.proofs.no_sums.Kinds as no-sums-Kinds
+use Rattle.turnover.proofs.no_sums.Reads as no-sums-Reads
+use Rattle.turnover.proofs.no_sums.Symbol as no-sums-Symbol
+use Rattle.turnover.proofs.no_sums.Met as no-sums-Met
+use Rattle.turnover.proofs.sums_step.Kinds as sums-step-Kinds
+use Rattle.turnover.proofs.sums_step.Reads as sums-step-Reads
+use Rattle.turnover.proofs.sums_step.Symbol as sums-step-Symbol
+use Rattle.turnover.proofs.sums_step.Met as sums-step-Met
+use Rattle.turnover.proofs.lesser.Kinds as lesser-Kinds
+use Rattle.turnover.proofs.lesser.Reads as lesser-Reads
+use Rattle.turnover.proofs.lesser.Symbol as lesser-Symbol
+use Rattle.turnover.proofs.lesser.Met as lesser-Met
 use Rattle.broker.proofs.state.UistBroker.fault_for.Kinds as fault-for-Kinds
 use Rattle.broker.proofs.state.UistBroker.fault_for.Reads as fault-for-Reads
 use Rattle.broker.proofs.state.UistBroker.fault_for.Symbol as fault-for-Symbol
@@ -152,11 +160,23 @@ basis-step = record { n = 0; ps = basis-step-Kinds.ps; r = basis-step-Kinds.r; P
 pub knows-basis-step : (w : World) (γ : Env) → γ "portfolio::basis::basis_step" ≡ basis-step-Symbol.routine → Knows basis-step (under w γ)
 knows-basis-step w γ e = basis-step-Reads.known w γ "portfolio::basis::basis_step" basis-step-Symbol.routine e (basis-step-Met.met (w .𝓤) (w .H) (w .𝓜) (w .𝓖) (w .𝓡))
 
-abbrev pub value-of : Callee
-value-of = record { n = 0; ps = value-of-Kinds.ps; r = value-of-Kinds.r; Pre = value-of-Reads.Asked; Post = value-of-Reads.Learnt; key = "lent::folds::value_of" }
+abbrev pub no-sums : Callee
+no-sums = record { n = 0; ps = no-sums-Kinds.ps; r = no-sums-Kinds.r; Pre = no-sums-Reads.Asked; Post = no-sums-Reads.Learnt; key = "turnover::no_sums" }
 
-pub knows-value-of : (w : World) (γ : Env) → γ "lent::folds::value_of" ≡ value-of-Symbol.routine → Knows value-of (under w γ)
-knows-value-of w γ e = value-of-Reads.known w γ "lent::folds::value_of" value-of-Symbol.routine e (value-of-Met.met (w .𝓤) (w .H) (w .𝓜) (w .𝓖) (w .𝓡))
+pub knows-no-sums : (w : World) (γ : Env) → γ "turnover::no_sums" ≡ no-sums-Symbol.routine → Knows no-sums (under w γ)
+knows-no-sums w γ e = no-sums-Reads.known w γ "turnover::no_sums" no-sums-Symbol.routine e (no-sums-Met.met (w .𝓤) (w .H) (w .𝓜) (w .𝓖) (w .𝓡))
+
+abbrev pub sums-step : Callee
+sums-step = record { n = 0; ps = sums-step-Kinds.ps; r = sums-step-Kinds.r; Pre = sums-step-Reads.Asked; Post = sums-step-Reads.Learnt; key = "turnover::sums_step" }
+
+pub knows-sums-step : (w : World) (γ : Env) → γ "turnover::sums_step" ≡ sums-step-Symbol.routine → Knows sums-step (under w γ)
+knows-sums-step w γ e = sums-step-Reads.known w γ "turnover::sums_step" sums-step-Symbol.routine e (sums-step-Met.met (w .𝓤) (w .H) (w .𝓜) (w .𝓖) (w .𝓡))
+
+abbrev pub lesser : Callee
+lesser = record { n = 0; ps = lesser-Kinds.ps; r = lesser-Kinds.r; Pre = lesser-Reads.Asked; Post = lesser-Reads.Learnt; key = "turnover::lesser" }
+
+pub knows-lesser : (w : World) (γ : Env) → γ "turnover::lesser" ≡ lesser-Symbol.routine → Knows lesser (under w γ)
+knows-lesser w γ e = lesser-Reads.known w γ "turnover::lesser" lesser-Symbol.routine e (lesser-Met.met (w .𝓤) (w .H) (w .𝓜) (w .𝓖) (w .𝓡))
 
 abbrev pub fault-for : Callee
 fault-for = record { n = 0; ps = fault-for-Kinds.ps; r = fault-for-Kinds.r; Pre = fault-for-Reads.Asked; Post = fault-for-Reads.Learnt; key = "broker::state::UistBroker::fault_for" }

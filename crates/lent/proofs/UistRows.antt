@@ -2,6 +2,7 @@
 use mathlib.Core.List.{[]}
 use Rattle.market.specs.Orders.{zero64, blankOrder, eventOf}
 use Rattle.costs.specs.Kept.{noCosts}
+use Rattle.turnover.specs.Turnover.{noSums}
 use Rattle.exchange.specs.Tick.{noTrades}
 use Rattle.broker.specs.Build.{noBroker}
 use Rattle.broker.specs.Read.{readFloat}
@@ -10,6 +11,8 @@ use Rattle.broker.specs.Send.{noEvents}
 use Rattle.portfolio.specs.declared.value.Amount.the-variants.{Missing}
 use Rattle.portfolio.proofs.basis.Basis as Ba
 use Rattle.portfolio.proofs.basis.Basis.Laws as Ba′
+use Rattle.turnover.proofs.Sums as Su
+use Rattle.turnover.proofs.Sums.Laws as Su′
 use Rattle.broker.proofs.state.UistBroker as Br
 use Rattle.broker.proofs.state.UistBroker.Laws as Br′
 use Rattle.broker.proofs.read.AmountRead as Am
@@ -50,6 +53,9 @@ use Rattle.slices.proofs.Derivation.{Kin, struct}
 
 abbrev pub basis : Kin
 basis = struct Ba.the-type Ba′.the-laws Ba′.the-copy Ba′.the-plain (record { quantity = zero64; value = zero64 }) tt
+
+abbrev pub sums : Kin
+sums = struct Su.the-type Su′.the-laws Su′.the-copy Su′.the-plain noSums tt
 
 abbrev pub uist-broker : Kin
 uist-broker = struct Br.the-type Br′.the-laws Br′.the-copy Br′.the-plain noBroker tt

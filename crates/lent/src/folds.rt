@@ -1,14 +1,17 @@
-// What is folded from the first `n` rows of a log: the cost basis of a symbol, and the turnover.
+// What is folded from the first `n` rows of a log: the cost basis of a symbol, and the sums of turnover.
 ghost use mathlib.Core.Path.{_≡_};
 ghost use Prim.Native.Nat.{_≤_};
 ghost use lib.ListN.{length, take};
-ghost use Rattle.rules.specs.Basis.{turnover};
+ghost use Rattle.turnover.specs.Turnover.{turnoverSums};
 ghost use Rattle.portfolio.specs.Basis.{basisIn};
 ghost use Rattle.lent.specs.Logs.{basisOver};
 use market::trade::Trade;
 use portfolio::basis::Basis;
 use portfolio::basis::basis_step;
 use portfolio::basis::no_basis;
+use turnover::Sums;
+use turnover::no_sums;
+use turnover::sums_step;
 
 pub(crate) fn fold_basis(log: &[Trade], n: usize, symbol: u32) -> Basis
     requires { ⌜ n ≤ length (now log) ⌝ }
@@ -24,22 +27,16 @@ pub(crate) fn fold_basis(log: &[Trade], n: usize, symbol: u32) -> Basis
     b
 }
 
-pub(crate) fn value_of(t: Trade) -> f64
-    ensures { λ r. ⌜ r ≡ t .value ⌝ }
-{
-    t.value
-}
-
-pub(crate) fn fold_turnover(log: &[Trade], n: usize) -> f64
+pub(crate) fn fold_turnover(log: &[Trade], n: usize) -> Sums
     requires { ⌜ n ≤ length (now log) ⌝ }
-    ensures { λ r. ⌜ r ≡ turnover (take n (now (log .entry))) ⌝ }
+    ensures { λ r. ⌜ r ≡ turnoverSums (take n (now (log .entry))) ⌝ }
 {
-    let mut sum = 0.0;
+    let mut s = no_sums();
     let mut i = 0;
     while i < n {
         let t = log[i];
-        sum = sum + value_of(t);
+        s = sums_step(s, t);
         i = i + 1;
     }
-    sum
+    s
 }

@@ -4,7 +4,8 @@ ghost use mathlib.Core.Path.{_≡_};
 ghost use mathlib.Core.List.{[], _∷_};
 ghost use lib.Dec.{ltb};
 ghost use Rattle.market.specs.Faults.{_draws_, drawn, unlessDrawn};
-ghost use Rattle.rules.specs.Basis.{basisOf, costBasis, turnover};
+ghost use Rattle.rules.specs.Basis.{basisOf, costBasis};
+ghost use Rattle.turnover.specs.Turnover.{turnover};
 ghost use Rattle.broker.specs.Lender.{lengthTest};
 ghost use Rattle.broker.specs.Read.{ReadsAmount, readFloat};
 ghost use Rattle.broker.specs.Lent.{buildFor};
@@ -36,6 +37,7 @@ use market::trade::Trade;
 use market::weight::Weight;
 use portfolio::basis::Basis;
 use portfolio::value::Amount;
+use turnover::lesser;
 
 // How many orders traded, how many sells were queued, and the number drawn, or 0.
 pub struct CheckAnswer {
@@ -75,14 +77,14 @@ pub fn cost_basis(broker: UistBroker, log: &[Trade], symbol: u32) -> AmountRead
     basis_read(b, fault)
 }
 
-// The sum of the values of the log's trades.
+// The lesser of what was bought and what was sold, by the values of the log's trades.
 pub fn turnover(broker: UistBroker, log: &[Trade]) -> FloatRead
     ensures { λ r. ⌜ r ≡ readFloat (turnover (loggedIn broker (now (log .entry)))) (turnoverFault broker (now (log .entry))) ⌝ }
 {
     let fault = broker.fault_for(log.len());
     let n = rows_logged(broker, fault);
-    let sum = fold_turnover(log, n);
-    turnover_read(sum, fault)
+    let sums = fold_turnover(log, n);
+    turnover_read(lesser(sums), fault)
 }
 
 // A fresh broker for this log; the table's rows are the first latest quotes.

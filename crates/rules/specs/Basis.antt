@@ -1,4 +1,4 @@
--- Cost basis and turnover: document 01, sections 4 and 7, as folds of trades. Definitions only.
+-- Cost basis: document 01, section 4, as a fold of trades. Definitions only.
 use Prim.Native.Nat.{ℕ}
 use mathlib.Core.Bool.{cond}
 use mathlib.Core.List.{List, foldl}
@@ -7,7 +7,7 @@ use lib.Dec.{eqb}
 use lib.Ieee.{Float}
 use Rattle.market.specs.Orders.{zero64}
 use Rattle.market.specs.declared.trade.Trade.{Trade}
-use Rattle.rules.specs.Amounts.{plus, divided, isZero}
+use Rattle.rules.specs.Amounts.{divided, isZero}
 use Rattle.rules.specs.Money.{adding}
 
 -- a symbol's quantity and value so far
@@ -31,10 +31,3 @@ basisOf b = cond (isZero (b .quantity)) none (some (divided (b .value) (b .quant
 
 unfoldable pub costBasis : List Trade → ℕ → Option Float
 costBasis log s = basisOf (foldl (basisStep s) (record { quantity = zero64; value = zero64 }) log)
-
--- the sum of all trade values in log order from 0.0
-abbrev pub addTurnover : Float → Trade → Float
-addTurnover v x = plus v (x .value)
-
-unfoldable pub turnover : List Trade → Float
-turnover log = foldl addTurnover zero64 log

@@ -1,6 +1,6 @@
 //! Writes what the broker and its exchange hold, as the eight lines of docs/SCENARIOS.md.
 
-use rotala::exchange::uist_v1::{resting, waiting, Trade, UistV1};
+use rotala::exchange::uist_v1::{resting, waiting, Trade, TradeType, UistV1};
 use rotala_client::broker::{BrokerState, BrokerStates, Portfolio, Quote};
 
 use crate::lists::{number, put_rows, sorted_holdings, sorted_quotes};
@@ -13,12 +13,24 @@ fn trades(broker: &Broker) -> Vec<Trade> {
     broker.trades_between(&i64::MIN, &i64::MAX)
 }
 
-fn sum_of_values(trades: &[Trade]) -> f64 {
-    trades.iter().fold(0.0, |sum, trade| sum + trade.value)
+/// Turnover by document 02, request 4: the bought sum where it is below the sold one, else the sold one.
+fn turnover_of(trades: &[Trade]) -> f64 {
+    let (mut bought, mut sold) = (0.0, 0.0);
+    for trade in trades {
+        match trade.typ {
+            TradeType::Buy => bought += trade.value,
+            TradeType::Sell => sold += trade.value,
+        }
+    }
+    if bought < sold {
+        bought
+    } else {
+        sold
+    }
 }
 
 pub fn turnover(broker: &Broker) -> f64 {
-    sum_of_values(&trades(broker))
+    turnover_of(&trades(broker))
 }
 
 pub fn state_word(broker: &Broker) -> &'static str {
@@ -43,7 +55,7 @@ impl Logged {
             return;
         }
         self.trades = trades(broker);
-        self.turnover = sum_of_values(&self.trades);
+        self.turnover = turnover_of(&self.trades);
         let mut names: Vec<&str> = self.trades.iter().map(|trade| &trade.symbol[..]).collect();
         names.sort_unstable_by_key(|name| number(name));
         names.dedup();

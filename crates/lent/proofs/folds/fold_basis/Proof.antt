@@ -1,12 +1,11 @@
 -- `fold_basis`: the loop folds one row more in each turn. Assumes nothing.
 use Rattle.slices.proofs.Derivation.{Base, R, ty, shrTy, same, hasV, makeV, freeV, rd, to, fr, gn, flag, loc, lit, part, shr-ptr, drop, sets, ops, op-stmt, copies, reads, loops, tests, ends, leaves, returns, Knows, _&_, no-more, int, by-val, by-num, calls, Task, task, here, Derives, Owes, runs, world, under, closes, refl, List, [], _∷_, w32, w64, named, field, tyInt, tyBool, tyPtr, lt, mul, add, offset, unsigned, rowsFrom, Sc, Entry, sInt, sBool, sPtr, sc-here, any-gone, whole, sslice}
-use Rattle.slices.proofs.Derivation.{_≡_, ap, _∙_, ℕ, _≤_, _<_, _+_, _-_, _*_, _^_, length, getD, take, size, upd, get, arith, zero≤, scaled-fits, ltb-true, ltb-false, falls, reached}
+use Rattle.slices.proofs.Derivation.{_≡_, ap, _∙_, ℕ, _≤_, _<_, _+_, _-_, _*_, _^_, length, take, size, upd, get, arith, zero≤, scaled-fits, ltb-true, ltb-false, falls, reached}
 use Rattle.market.specs.declared.trade.Trade.{Trade}
-use Rattle.rules.specs.Basis as Rules
 use Rattle.rules.specs.Basis.{basisStep}
 use Rattle.portfolio.specs.Basis.{basisIn, noBasis}
 use Rattle.lent.specs.Logs.{basisOver}
-use Rattle.lent.proofs.Folding.{fold-more}
+use Rattle.lent.proofs.Folding.{fold-turn}
 use Rattle.lent.proofs.Rows.{trade}
 use Rattle.lent.proofs.UistRows.{basis}
 use Rattle.lent.proofs.UistCallees.{no-basis, knows-no-basis, basis-step, knows-basis-step}
@@ -47,10 +46,6 @@ derived o kn κs qs bs =
     copies 4 0 (hasV basis) gn (makeV basis) refl (
     drop 2 (fr U) (drop 3 (fr N) (drop 4 (freeV basis) (drop 5 (fr U) (returns tt))))))))
 
--- a turn
-more : (s : ℕ) (l : List Trade) (i : ℕ) (b b′ : Rules.Basis) → i < length l → b ≡ basisOver s (take i l) → b′ ≡ basisStep s b (getD l i (trade .none)) → b′ ≡ basisOver s (take (i + 1) l)
-more s l i b b′ h e f = f ∙ ap (λ (x : Rules.Basis). basisStep s x (getD l i (trade .none))) e ∙ fold-more (basisStep s) noBasis l i (trade .none) h
-
 asked : Owes goal derived
 asked o kn κs qs a good pre bs =
     let log : List Trade = a .0 .now in
@@ -66,7 +61,7 @@ asked o kn κs qs a good pre bs =
           (
             λ t. let l : vs .1 < n = ltb-true (vs .1) n t in (
               scaled-fits (vs .1) (length log) (size (ty trade)) (omega (arith, l, pre)) room,
-              (tt, ((refl, refl, omega (arith, l, pre)), λ _. (λ _. tt, λ b. (record { fits = omega (arith, l, pre, short) }, (n - (vs .1 + 1), falls n (vs .1) l, ((b .1, vs .1 + 1), refl, (omega (arith, l), more s log (vs .1) (basisIn (vs .0)) (basisIn (b .1)) (omega (arith, l, pre)) (inv .1) (b .5)), refl)))))),
+              (tt, ((refl, refl, omega (arith, l, pre)), λ _. (λ _. tt, λ b. (record { fits = omega (arith, l, pre, short) }, (n - (vs .1 + 1), falls n (vs .1) l, ((b .1, vs .1 + 1), refl, (omega (arith, l), fold-turn (basisStep s) noBasis log (vs .1) (trade .none) (basisIn (vs .0)) (basisIn (b .1)) (omega (arith, l, pre)) (inv .1) (b .5)), refl)))))),
             ),
             λ f. ((refl, (tt, (tt, tt))), inv .1 ∙ ap (λ (k : ℕ). basisOver s (take k log)) (reached (inv .0) (ltb-false (vs .1) n f))),
           ),

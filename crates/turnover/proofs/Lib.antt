@@ -1,0 +1,2 @@
+-- What is proved of turnover.
+pub mod OnlyBuys
