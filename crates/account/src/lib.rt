@@ -1,5 +1,7 @@
 // Cash in an account: credit, debit and forced debit move it in the account itself, which is lent.
 // The functions with plain parameters below them open an account of some cash and lend it.
+#![tactic(auto)]
+
 ghost use Rattle.std.specs.Prelude.{◌≡◌};
 ghost use Rattle.account.specs.Account.{credit_of, debit_of, force_of, account_of, debit_number, no_number, Tells};
 
@@ -10,7 +12,7 @@ use crate::value::{
 };
 
 // The Rust's four events, then those of the numbers 2 and 16. Each carries its amount.
-#[derive(Drop)]
+#[derive(Clone, Copy)]
 pub enum BrokerCashEvent {
     WithdrawSuccess(f64),
     WithdrawFailure(f64),
@@ -20,13 +22,13 @@ pub enum BrokerCashEvent {
     Broken(f64),
 }
 
-#[derive(Drop)]
+#[derive(Clone, Copy)]
 pub struct Account {
     pub cash: f64,
 }
 
 // The cash after a move, and the event.
-#[derive(Drop)]
+#[derive(Clone, Copy)]
 pub struct Moved {
     pub cash: f64,
     pub event: BrokerCashEvent,

@@ -40,6 +40,7 @@ pub(crate) fn credit_to(a: Account, value: f64) -> Moved
     }
 }
 
+#[tactic(auto, unfolding(crate::specs::Account::debit_of, crate::specs::Account::force_of))]
 pub(crate) fn debit_from(a: Account, value: f64) -> Moved
     ensures { result ≡ debit_of a.cash value }
 {

@@ -6,3 +6,4 @@ pub mod Selling
 pub mod Settling
 pub mod Walking
 pub mod Updating
+pub mod Building

@@ -14,7 +14,7 @@ use portfolio::state::{Funds, Portfolio};
 
 // The broker, and the number drawn, or 0. Where a number is drawn no broker is made: what stands
 // there draws 16 at every call.
-#[derive(Drop)]
+#[derive(Clone, Copy)]
 pub struct Built {
     pub broker: UistBroker,
     pub fault: u32,

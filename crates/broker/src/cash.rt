@@ -5,7 +5,7 @@ ghost use Rattle.broker.specs.Cash.{with_cash, deposit_of, withdraw_of, deposit_
 use crate::state::UistBroker;
 use account::BrokerCashEvent;
 
-#[derive(Drop)]
+#[derive(Clone, Copy)]
 pub struct CashMoved {
     pub broker: UistBroker,
     pub event: BrokerCashEvent,

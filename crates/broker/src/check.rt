@@ -16,7 +16,7 @@ use portfolio::state::Portfolio;
 
 // What a check comes to: the new state, the trades in the first `count` places, the log's row where
 // the first of them goes, how many sells it queued, and the number drawn, or 0.
-#[derive(Drop)]
+#[derive(Clone, Copy)]
 pub struct Checked {
     pub broker: UistBroker,
     pub trades: [Trade; 1024],

@@ -1,4 +1,6 @@
 // The Uist v1 broker by value: cash, holdings and pending quantities over an exchange.
+#![tactic(auto)]
+
 pub mod build;
 pub mod cash;
 pub mod check;

@@ -9,7 +9,7 @@ use account::BrokerCashEvent;
 use portfolio::liquidate;
 
 // What a liquidation comes to: the new state, whether it succeeded, and how many sells it queued.
-#[derive(Drop)]
+#[derive(Clone, Copy)]
 pub struct Liquidated {
     pub broker: UistBroker,
     pub done: bool,

@@ -11,43 +11,43 @@ use portfolio::value;
 use portfolio::value::Amount;
 use sender::Latest;
 
-#[derive(Drop)]
+#[derive(Clone, Copy)]
 pub enum BrokerState {
     Ready,
     Failed,
 }
 
-#[derive(Drop)]
+#[derive(Clone, Copy)]
 pub struct QuoteRead {
     pub latest: Latest,
     pub fault: u32,
 }
 
-#[derive(Drop)]
+#[derive(Clone, Copy)]
 pub struct AmountRead {
     pub amount: Amount,
     pub fault: u32,
 }
 
-#[derive(Drop)]
+#[derive(Clone, Copy)]
 pub struct FloatRead {
     pub value: f64,
     pub fault: u32,
 }
 
-#[derive(Drop)]
+#[derive(Clone, Copy)]
 pub struct CountRead {
     pub count: u64,
     pub fault: u32,
 }
 
-#[derive(Drop)]
+#[derive(Clone, Copy)]
 pub struct StateRead {
     pub state: BrokerState,
     pub fault: u32,
 }
 
-#[derive(Drop)]
+#[derive(Clone, Copy)]
 pub struct ImpactRead {
     pub impact: Impact,
     pub fault: u32,

@@ -11,21 +11,21 @@ use portfolio::state::{Funds, Portfolio};
 use sender;
 use sender::AtSymbol;
 
-#[derive(Drop)]
+#[derive(Clone, Copy)]
 pub struct Sent {
     pub broker: UistBroker,
     pub event: OrderEvent,
 }
 
 // The new state, and 16 or 0.
-#[derive(Drop)]
+#[derive(Clone, Copy)]
 pub struct BrokerDeleted {
     pub broker: UistBroker,
     pub fault: u32,
 }
 
 // The new state, and the events of the orders sent in the first places.
-#[derive(Drop)]
+#[derive(Clone, Copy)]
 pub struct SentAll {
     pub broker: UistBroker,
     pub events: [OrderEvent; 256],

@@ -2,7 +2,7 @@
 use exchange::state::UistV1;
 use portfolio::state::Portfolio;
 
-#[derive(Drop)]
+#[derive(Clone, Copy)]
 pub struct UistBroker {
     pub exchange: UistV1,
     pub portfolio: Portfolio,

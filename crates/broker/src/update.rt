@@ -16,7 +16,7 @@ use market::weight::Weights;
 use portfolio::list::OrderList;
 
 // How long the lent lists are: the log, the list for events, and the rows of weights.
-#[derive(Drop)]
+#[derive(Clone, Copy)]
 pub struct Lengths {
     pub log: usize,
     pub events: usize,
@@ -26,7 +26,7 @@ pub struct Lengths {
 // What an update comes to: the new state; the trades in the first `count` places, and the log's row
 // where the first of them goes; the events in the first `sent` places; the total value; and the
 // number drawn, or 0. With 13 or 18 the check stands.
-#[derive(Drop)]
+#[derive(Clone, Copy)]
 pub struct Updated {
     pub broker: UistBroker,
     pub trades: [Trade; 1024],

@@ -8,7 +8,7 @@ use market::order::Order;
 use market::weight::Weights;
 
 // What the walk comes to: its orders in the first `count` places, and the number drawn, or 0.
-#[derive(Drop)]
+#[derive(Clone, Copy)]
 pub struct Walked {
     pub orders: [Order; 256],
     pub count: usize,

@@ -9,7 +9,7 @@ use market::table::QuoteRows;
 use market::vendor_quote::VendorQuote;
 
 // The row of a symbol stands at the symbol's place where `present` says so.
-#[derive(Drop)]
+#[derive(Clone, Copy)]
 pub struct BySymbol {
     pub present: [bool; 256],
     pub rows: [VendorQuote; 256],

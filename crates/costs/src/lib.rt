@@ -1,9 +1,11 @@
 // Trade costs: what they do to a budget and a price, and what they charge on a trade (`BrokerCost` of the Rust).
+#![tactic(auto)]
+
 ghost use Rattle.std.specs.Prelude.{◌≡◌, min};
 ghost use Rattle.costs.specs.Costs.{calc, trade_impact, trade_costs, trade_impact_total};
 ghost use Rattle.costs.specs.Kept.{costs_of, no_costs, with_cost};
 
-#[derive(Drop)]
+#[derive(Clone, Copy)]
 pub enum BrokerCost {
     PerShare(f64),
     PctOfValue(f64),
@@ -11,7 +13,7 @@ pub enum BrokerCost {
 }
 
 // A budget and a price, net of costs.
-#[derive(Drop)]
+#[derive(Clone, Copy)]
 pub struct Impact {
     pub budget: f64,
     pub price: f64,
@@ -71,13 +73,13 @@ impl BrokerCost {
 }
 
 // A cost in a struct, since a field may not be an array of enums.
-#[derive(Drop)]
+#[derive(Clone, Copy)]
 pub struct Cost {
     pub cost: BrokerCost,
 }
 
 // A broker's costs, in order: the first `count` of the list. The list has 16 places, so a count above 16 reads as 16.
-#[derive(Drop)]
+#[derive(Clone, Copy)]
 pub struct TradeCosts {
     pub list: [Cost; 16],
     pub count: usize,

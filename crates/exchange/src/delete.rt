@@ -6,14 +6,14 @@ ghost use Rattle.exchange.specs.Delete.{has_number, place_in, removed_of, delete
 use crate::state::{Booked, UistV1};
 
 // The new state, and 16 or 0.
-#[derive(Drop)]
+#[derive(Clone, Copy)]
 pub struct Deleted {
     pub exchange: UistV1,
     pub fault: u32,
 }
 
 // Where a number stands among the resting orders.
-#[derive(Drop)]
+#[derive(Clone, Copy)]
 enum Place {
     At(usize),
     Nowhere,

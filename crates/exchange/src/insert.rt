@@ -9,14 +9,14 @@ use market::fault;
 use market::order::Order;
 
 // The new state, and the number drawn, or 0 where the order was taken.
-#[derive(Drop)]
+#[derive(Clone, Copy)]
 pub struct Inserted {
     pub exchange: UistV1,
     pub fault: u32,
 }
 
 // The counts with one order more that waits, and its place in the book.
-#[derive(Drop)]
+#[derive(Clone, Copy)]
 pub struct Joining {
     pub counts: Counts,
     pub at: usize,

@@ -5,7 +5,7 @@ ghost use Rattle.exchange.specs.State.{trade_count_of};
 use crate::state::UistV1;
 
 // How many trades are in the log, and the number drawn, or 0.
-#[derive(Drop)]
+#[derive(Clone, Copy)]
 pub struct TradeCount {
     pub count: u64,
     pub fault: u32,

@@ -5,7 +5,7 @@ ghost use Rattle.exchange.specs.State.{booked_as, waiting_row, fresh, broken_of,
 use market::order::Order;
 
 // An order in the book. A waiting order has no number yet: 0 stands there.
-#[derive(Drop)]
+#[derive(Clone, Copy)]
 pub struct Booked {
     pub id: u64,
     pub order: Order,
@@ -13,7 +13,7 @@ pub struct Booked {
 
 // How many orders rest and wait, how many numbers were given to booked orders, how many orders
 // were taken, how many trades were logged, and the log's length.
-#[derive(Drop)]
+#[derive(Clone, Copy)]
 pub struct Counts {
     pub resting: usize,
     pub waits: usize,
@@ -24,7 +24,7 @@ pub struct Counts {
 }
 
 // The book has the resting orders first, in book order, then the waiting ones in order of taking.
-#[derive(Drop)]
+#[derive(Clone, Copy)]
 pub struct UistV1 {
     pub book: [Booked; 1024],
     pub counts: Counts,

@@ -10,7 +10,7 @@ use market::{fault, table, trade};
 
 // The new state, the trades in the first `count` places of `trades`, the log's row where the first
 // of them goes, and the number drawn, or 0.
-#[derive(Drop)]
+#[derive(Clone, Copy)]
 pub struct Ticked {
     pub exchange: UistV1,
     pub trades: [Trade; 1024],
@@ -21,7 +21,7 @@ pub struct Ticked {
 
 // What a tick on a lent log answers: the new state, how many orders traded, and the number drawn,
 // or 0.
-#[derive(Drop)]
+#[derive(Clone, Copy)]
 pub struct TickAnswer {
     pub exchange: UistV1,
     pub traded: usize,
@@ -29,7 +29,7 @@ pub struct TickAnswer {
 }
 
 // The resting orders that stay, and the trades of the others.
-#[derive(Drop)]
+#[derive(Clone, Copy)]
 struct Executed {
     book: [Booked; 1024],
     kept: usize,
@@ -38,7 +38,7 @@ struct Executed {
 }
 
 // A book, how many of its orders rest, and how many numbers were given.
-#[derive(Drop)]
+#[derive(Clone, Copy)]
 struct Booking {
     book: [Booked; 1024],
     at: usize,

@@ -1,6 +1,8 @@
 // Rounding an `f64` to a whole number, and the test whether it is a number at all. Each function
 // takes every `f64` and refuses none. From 2^52 on every `f64` is whole. Below that the whole part
 // is a `u64`, and so is one more.
+#![tactic(auto)]
+
 ghost use Rattle.std.specs.Prelude.{◌≡◌, false, T, pos};
 ghost use Rattle.std.specs.Float.Ieee as Ieee;
 ghost use Rattle.std.specs.Float.{fin};

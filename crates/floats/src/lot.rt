@@ -10,7 +10,7 @@ ghost use Rattle.floats.specs.Lots.{is_lot, lot_of, lot_shares, multiple_in};
 use crate::floor;
 
 // A multiple of a lot size, or none because the value is beyond what is rounded.
-#[derive(Drop)]
+#[derive(Clone, Copy)]
 pub enum Multiple {
     Of(f64),
     Beyond,

@@ -1,4 +1,6 @@
 // `floor` and `ceil` for C: the archive that `tools/compare-libm.sh` links beside libm.
+#![tactic(auto)]
+
 ghost use Rattle.std.specs.Prelude.{◌≡◌};
 ghost use Rattle.floats.specs.Whole.{floor_of, ceil_of};
 

@@ -4,7 +4,7 @@ ghost use Rattle.market.specs.declared.order.OrderType.TheVariants.{MarketSell, 
 ghost use Rattle.market.specs.Faults.{drawn};
 ghost use Rattle.market.specs.Orders.{market_order, blank_order, priced_order, is_sell, is_market, order_tests};
 
-#[derive(Drop)]
+#[derive(Clone, Copy)]
 pub enum OrderType {
     MarketSell,
     MarketBuy,
@@ -15,7 +15,7 @@ pub enum OrderType {
 }
 
 // The price counts only where `priced` says that there is one.
-#[derive(Drop)]
+#[derive(Clone, Copy)]
 pub struct Order {
     pub kind: OrderType,
     pub priced: bool,
@@ -25,7 +25,7 @@ pub struct Order {
 }
 
 // The order, with 0 where it was taken or the number that it drew.
-#[derive(Drop)]
+#[derive(Clone, Copy)]
 pub struct OrderEvent {
     pub order: Order,
     pub fault: u32,
@@ -128,6 +128,7 @@ impl Order {
     }
 
     // 1 and 2 of an order, or 0.
+    #[tactic(auto, unfolding(crate::specs::Faults::drawn))]
     pub fn fault(self) -> u32
         ensures { result ≡ drawn (order_tests self) }
     {

@@ -3,7 +3,7 @@ ghost use Rattle.std.specs.Prelude.{◌≡◌};
 ghost use Rattle.market.specs.Faults.{drawn};
 ghost use Rattle.market.specs.Quotes.{blank_quote, is_price, row_tests};
 
-#[derive(Drop)]
+#[derive(Clone, Copy)]
 pub struct Quote {
     pub symbol: u32,
     pub bid: f64,

@@ -6,7 +6,7 @@ use crate::quote::Quote;
 
 // The row of a symbol stands at the symbol's place where `present` says so. `fault` is the number
 // that the first bad row drew, or 0.
-#[derive(Drop)]
+#[derive(Clone, Copy)]
 pub struct Table {
     pub present: [bool; 256],
     pub rows: [Quote; 256],
@@ -15,7 +15,7 @@ pub struct Table {
 
 // The first `count` rows, and the number drawn, or 0. There is a row more than a table has, as
 // `ReadTable::of` takes them.
-#[derive(Drop)]
+#[derive(Clone, Copy)]
 pub struct QuoteRows {
     pub rows: [Quote; 257],
     pub count: usize,
@@ -24,7 +24,7 @@ pub struct QuoteRows {
 
 // A table that was read off rows. Its field is private, so nothing else makes one, and the calls that
 // take one need not test its number again.
-#[derive(Drop)]
+#[derive(Clone, Copy)]
 pub struct ReadTable {
     table: Table,
 }

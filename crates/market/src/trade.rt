@@ -6,13 +6,13 @@ ghost use Rattle.market.specs.Trades.{blank_trade, rises, meets_rule, trade_of, 
 use crate::order::{Order, OrderType};
 use crate::quote::Quote;
 
-#[derive(Drop)]
+#[derive(Clone, Copy)]
 pub enum TradeType {
     Buy,
     Sell,
 }
 
-#[derive(Drop)]
+#[derive(Clone, Copy)]
 pub struct Trade {
     pub symbol: u32,
     pub typ: TradeType,
@@ -22,7 +22,7 @@ pub struct Trade {
 }
 
 // What an order does on the row for its symbol.
-#[derive(Drop)]
+#[derive(Clone, Copy)]
 pub enum Fill {
     Traded(Trade),
     Rests,

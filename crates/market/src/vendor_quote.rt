@@ -5,7 +5,7 @@ ghost use Rattle.market.specs.VendorQuotes.{blank_vendor, quote_of, vendor_row_t
 
 use crate::quote::Quote;
 
-#[derive(Drop)]
+#[derive(Clone, Copy)]
 pub struct VendorQuote {
     pub symbol: u32,
     pub bid: f64,

@@ -3,7 +3,7 @@ ghost use Rattle.std.specs.Prelude.{◌≡◌};
 ghost use Rattle.market.specs.Faults.{drawn};
 ghost use Rattle.market.specs.Weights.{weight_tests, weights_of};
 
-#[derive(Drop)]
+#[derive(Clone, Copy)]
 pub struct Weight {
     pub symbol: u32,
     pub weight: f64,
@@ -11,7 +11,7 @@ pub struct Weight {
 
 // Weights by ascending symbol: the first `count` rows; `fault` is the number that the first bad row
 // drew, or 0. Its fields are private, so only reading rows makes one.
-#[derive(Drop)]
+#[derive(Clone, Copy)]
 pub struct Weights {
     rows: [Weight; 257],
     count: usize,

@@ -6,7 +6,7 @@ ghost use Rattle.portfolio.specs.Basis.{basis_in, no_basis};
 use market::trade::{Trade, TradeType};
 
 // A symbol's quantity and value so far.
-#[derive(Drop)]
+#[derive(Clone, Copy)]
 pub struct Basis {
     pub quantity: f64,
     pub value: f64,

@@ -9,7 +9,7 @@ use market::table::Table;
 use market::trade::{Trade, TradeType};
 
 // Cash, and a symbol's holding and pending quantity.
-#[derive(Drop)]
+#[derive(Clone, Copy)]
 struct Settled {
     cash: f64,
     holding: f64,

@@ -13,7 +13,7 @@ use market::order::Order;
 use market::quote::Quote;
 
 // Where the walk stops: the last order, if it `sells`, and the remaining amount.
-#[derive(Drop)]
+#[derive(Clone, Copy)]
 struct Part {
     order: Order,
     sells: bool,
@@ -21,14 +21,14 @@ struct Part {
 }
 
 // The sales of the walk, and the rest.
-#[derive(Drop)]
+#[derive(Clone, Copy)]
 struct Sold {
     list: OrderList,
     rest: f64,
 }
 
 // The orders of a liquidation, where it is `found` that it succeeds.
-#[derive(Drop)]
+#[derive(Clone, Copy)]
 pub struct SaleList {
     pub list: OrderList,
     pub found: bool,

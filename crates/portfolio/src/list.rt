@@ -5,7 +5,7 @@ ghost use Rattle.portfolio.specs.Lists.{no_orders};
 use market::order::Order;
 
 // Orders that a liquidation or the weights list: the first `count`.
-#[derive(Drop)]
+#[derive(Clone, Copy)]
 pub struct OrderList {
     pub orders: [Order; 256],
     pub count: usize,

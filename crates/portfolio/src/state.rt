@@ -7,7 +7,7 @@ use market::table::Table;
 
 // A symbol is held where its holding is not 0.0. A pending quantity is there where `awaited` says
 // so, since a sum of zero stays present.
-#[derive(Drop)]
+#[derive(Clone, Copy)]
 pub struct Funds {
     pub holding: [f64; 256],
     pub pending: [f64; 256],
@@ -16,7 +16,7 @@ pub struct Funds {
     pub failed: bool,
 }
 
-#[derive(Drop)]
+#[derive(Clone, Copy)]
 pub struct Portfolio {
     pub latest: Table,
     pub funds: Funds,

@@ -11,7 +11,7 @@ use costs::TradeCosts;
 use market::quote::Quote;
 
 // An amount that may be missing.
-#[derive(Drop)]
+#[derive(Clone, Copy)]
 pub enum Amount {
     Of(f64),
     Missing,

@@ -26,7 +26,7 @@ use market::table;
 use market::weight::{Weight, Weights};
 
 // What wanted shares come to; `Beyond` where the lot does not round the quotient.
-#[derive(Drop)]
+#[derive(Clone, Copy)]
 enum Wanted {
     Listed(Order),
     Nothing,
@@ -35,14 +35,14 @@ enum Wanted {
 
 // The orders of the rows that were walked; all of the walk's where it is `found` that the lot rounds
 // every quotient that it meets.
-#[derive(Drop)]
+#[derive(Clone, Copy)]
 struct WantedList {
     list: OrderList,
     found: bool,
 }
 
 // The orders of the weights, and the number drawn, or 0; where one is drawn, no order is listed.
-#[derive(Drop)]
+#[derive(Clone, Copy)]
 pub struct Plan {
     pub list: OrderList,
     pub fault: u32,

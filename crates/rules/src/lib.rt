@@ -1,1 +1,2 @@
 // The rules of cash, values, sends, liquidation and weights, over what they read. It has no code.
+#![tactic(auto)]

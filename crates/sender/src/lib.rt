@@ -1,5 +1,7 @@
 // The sender's numbers, 1, 2 and 4 to 11, by what an order's tests read, and what a taken order adds to
 // its symbol's pending quantity.
+#![tactic(auto)]
+
 ghost use Rattle.std.specs.Prelude.{◌≡◌};
 ghost use Rattle.std.proofs.Math.Option.{some};
 ghost use Rattle.market.specs.Faults.{unless_drawn};
@@ -16,14 +18,14 @@ use market::order::{Order, OrderEvent};
 use market::quote::Quote;
 
 // The latest quote of a symbol.
-#[derive(Drop)]
+#[derive(Clone, Copy)]
 pub enum Latest {
     At(Quote),
     Unquoted,
 }
 
 // What an order's tests read at its symbol: the latest row, if `present`, and the holding.
-#[derive(Drop)]
+#[derive(Clone, Copy)]
 pub struct AtSymbol {
     pub present: bool,
     pub quote: Quote,

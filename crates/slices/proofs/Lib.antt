@@ -1,15 +1,2 @@
--- The steps, which Derivation gathers, and the loops that store and load rows.
-pub mod Where
-pub mod RowTypes
-pub mod Operands
-pub mod Steps
-pub mod Lends
-pub mod Parts
-pub mod Shape
-pub mod Calls
-pub mod Task
-pub mod Close
+-- The laws of rows that are copied from place to place, as the loops that load and store rows do it.
 pub mod Pastes
-pub mod Derivation
-pub mod Store
-pub mod Load

@@ -1,1 +1,2 @@
-// No code: proof steps for functions over slices of structs and references to structs, and the loops that load and store such slices, in proofs/.
+// No code: the laws of rows that are copied to and from lent slices, row after row, in proofs/.
+#![tactic(auto)]

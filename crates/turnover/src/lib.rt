@@ -1,12 +1,14 @@
 // Turnover by the fund convention: what was bought and what was sold are summed apart, and the lesser
 // of the two sums counts.
+#![tactic(auto)]
+
 ghost use Rattle.std.specs.Prelude.{◌≡◌};
 ghost use Rattle.turnover.specs.Turnover.{no_sums, add_sums, lesser};
 
 use market::trade::{Trade, TradeType};
 
 // The values bought and the values sold so far.
-#[derive(Drop)]
+#[derive(Clone, Copy)]
 pub struct Sums {
     pub bought: f64,
     pub sold: f64,
