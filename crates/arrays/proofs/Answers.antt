@@ -6,36 +6,25 @@ use mathlib.Core.List.{List, ◌++◌}
 use lib.ListN.{length, take, drop}
 use lib.Seq.{take_at, drop_at, length-take-le}
 use Rattle.lists.specs.Lists.{over}
-use Rattle.market.specs.declared.order.Order.{Order}
 use Rattle.market.specs.declared.order.OrderEvent.{OrderEvent}
 use Rattle.market.specs.declared.quote.Quote.{Quote}
 use Rattle.market.specs.declared.trade.Trade.{Trade}
 use Rattle.market.specs.declared.vendor_quote.VendorQuote.{VendorQuote}
 use Rattle.market.specs.declared.weight.Weight.{Weight}
 use Rattle.corrections.specs.Corrections.{rows_shown}
-use Rattle.costs.specs.declared.TradeCosts.{TradeCosts}
-use Rattle.broker.specs.Lent.{build_for}
 use Rattle.broker.specs.declared.state.UistBroker.{UistBroker}
-use Rattle.broker.specs.declared.build.Built.{Built}
-use Rattle.lent.specs.Answers.{AnswersCheck, AnswersSend, AnswersWalk, AnswersUpdate}
+use Rattle.lent.specs.Answers.{AnswersCheck, AnswersUpdate}
 use Rattle.lent.specs.declared.uist.CheckAnswer.{CheckAnswer}
-use Rattle.lent.specs.declared.uist.SendAnswer.{SendAnswer}
-use Rattle.lent.specs.declared.uist.WalkAnswer.{WalkAnswer}
 use Rattle.lent.specs.declared.uist.UpdateAnswer.{UpdateAnswer}
-use Rattle.arrays.specs.Arrays.{tradable_in, fetched_in, weights_in, orders_in, lent_of, past_lent, blank_events, blank_orders}
-use Rattle.reads.specs.Answers.{AnswersList}
-use Rattle.reads.specs.declared.uist.ListRead.{ListRead}
+use Rattle.arrays.specs.Arrays.{tradable_in, fetched_in, weights_in, lent_of, past_lent, blank_events}
 use Rattle.vendor.specs.Corrects.{AnswersCorrect, correct_answer}
 use Rattle.vendor.specs.declared.answer.TableAnswer.{TableAnswer}
 use Rattle.vendor.proofs.Answering.{stored-part}
 use Rattle.vendor.proofs.Correcting.{shown-fit}
 use Rattle.arrays.specs.Corrects.{correct_on}
-use Rattle.arrays.specs.Reads.{ReadOn, blank_quotes}
+use Rattle.arrays.specs.Reads.{blank_quotes}
 use Rattle.arrays.specs.declared.Lists.{Lists}
-use Rattle.arrays.specs.declared.Orders.{Orders}
 use Rattle.arrays.specs.declared.CheckedList.{CheckedList}
-use Rattle.arrays.specs.declared.SentList.{SentList}
-use Rattle.arrays.specs.declared.WalkedList.{WalkedList}
 use Rattle.arrays.specs.declared.UpdatedList.{UpdatedList}
 use Rattle.arrays.specs.declared.correct.TableCorrected.{TableCorrected}
 use Rattle.arrays.proofs.Lengths.{within}
@@ -52,37 +41,13 @@ module _ {A : Type 0} (room r : ℕ) (e after : List A) (is-r : r ≡ min room 1
   pub past_back : past_lent room (after ++ drop r e) ≡ past_lent room e
   past_back = ap (λ (m : ℕ). drop m (after ++ drop r e)) (sym is-r) ∙ drop_at after (drop r e) r long ∙ ap (λ (m : ℕ). drop m e) is-r
 
--- ---- the calls
-
-pub build-answers : (c : TradeCosts) (lot : ℕ) (x : Lists) (log : List Trade) (t : List Quote) (k : ℕ) (r : Built) → t ≡ x.tradable → k ≡ min x.first 512 →
-    r ≡ build_for c lot (take k t) log → r ≡ build_for c lot (tradable_in x) log
-build-answers c lot x log t k r is-t is-k is-r = rw (is-t, is-k) at is-r
+-- ---- the calls with two tables
 
 pub check-answers : (b : UistBroker) (x : Lists) (log after : List Trade) (t f : List Quote) (k l n : ℕ) (y : CheckAnswer) (z : CheckedList) →
     t ≡ x.tradable → k ≡ min x.first 512 → f ≡ x.fetched → l ≡ min x.second 512 →
     AnswersCheck b (take k t) (take l f) log y after → z ≡ record { answer = y; micros = n } →
     AnswersCheck b (tradable_in x) (fetched_in x) log z.answer after
 check-answers b x log after t f k l n y z is-t is-k is_f is-l done is-z = rw is-z (rw (is-t, is-k, is_f, is-l) at done)
-
-pub send-answers : (b : UistBroker) (x : Orders) (o : List Order) (e after : List OrderEvent) (k r : ℕ) (y : SendAnswer) (z : SentList) →
-    o ≡ x.list → k ≡ min x.count 1024 → e ≡ blank_events → r ≡ min x.room 1024 → length e ≡ 1024 → length after ≡ length (take r e) →
-    AnswersSend b (take k o) (take r e) y after → z ≡ record { answer = y; events = after ++ drop r e } →
-    AnswersSend b (orders_in x) (lent_of x.room blank_events) z.answer (lent_of x.room z.events) × (past_lent x.room z.events ≡ past_lent x.room blank_events)
-send-answers b x o e after k r y z is-o is-k is-e is-r all same done is-z =
-    rw is-z (
-      rw (lent_back x.room r e after is-r all same) (rw (is-o, is-k, is-e, is-r) at done),
-      past_back x.room r e after is-r all same ∙ ap (past_lent x.room) is-e,
-    )
-
-pub walk-answers : (b : UistBroker) (x : Lists) (w : List Weight) (o after : List Order) (m r : ℕ) (y : WalkAnswer) (z : WalkedList) →
-    w ≡ x.weights → m ≡ min x.third 512 → o ≡ blank_orders → r ≡ min x.room 1024 → length o ≡ 1024 → length after ≡ length (take r o) →
-    AnswersWalk b (take m w) (take r o) y after → z ≡ record { answer = y; orders = after ++ drop r o } →
-    AnswersWalk b (weights_in x) (lent_of x.room blank_orders) z.answer (lent_of x.room z.orders) × (past_lent x.room z.orders ≡ past_lent x.room blank_orders)
-walk-answers b x w o after m r y z is-w is_m is-o is-r all same done is-z =
-    rw is-z (
-      rw (lent_back x.room r o after is-r all same) (rw (is-w, is_m, is-o, is-r) at done),
-      past_back x.room r o after is-r all same ∙ ap (past_lent x.room) is-o,
-    )
 
 pub update-answers : (b : UistBroker) (x : Lists) (log logged : List Trade) (t f : List Quote) (w : List Weight) (e after : List OrderEvent) (k l m r n : ℕ) (y : UpdateAnswer) (z : UpdatedList) →
     t ≡ x.tradable → k ≡ min x.first 512 → f ≡ x.fetched → l ≡ min x.second 512 → w ≡ x.weights → m ≡ min x.third 512 →
@@ -94,16 +59,6 @@ update-answers b x log logged t f w e after k l m r n y z is-t is-k is_f is-l is
       rw (lent_back x.room r e after is-r all same) (rw (is-t, is-k, is_f, is-l, is-w, is_m, is-e, is-r) at done),
       past_back x.room r e after is-r all same ∙ ap (past_lent x.room) is-e,
     )
-
--- ---- a read of one of the broker's lists, over the row type
-
-pub read-answers : {A : Type 0} (b : UistBroker) (rows : List A) (room r : ℕ) (blank e after : List A) (y : ListRead) → e ≡ blank → r ≡ min room 1024 → length e ≡ 1024 →
-    length after ≡ length (take r e) → AnswersList b rows (take r e) y after → ReadOn b rows room blank y (after ++ drop r e)
-read-answers b rows room r blank e after y is-e is-r all same done =
-    record {
-      lent = rw (lent_back room r e after is-r all same) (rw (is-e, is-r) at done);
-      past = past_back room r e after is-r all same ∙ ap (past_lent room) is-e;
-    }
 
 -- ---- the vendor's rows, corrected
 

@@ -1,8 +1,12 @@
 // Processor time.
+use std::time::CpuClock;
 
-// The processor time so far.
-pub fn now() -> i64 {
-    libc::clock()
+// The microseconds of processor time so far; below 0 where the clock fails.
+pub fn now(rt: &impl CpuClock) -> i64 {
+    match rt.process_cpu_time() {
+        Ok(time) => i64::try_from(time.as_micros()).unwrap_or(-1),
+        Err(_) => -1,
+    }
 }
 
 // A time as a whole number; 0 where it is negative.
@@ -14,9 +18,9 @@ fn whole(time: i64) -> u64 {
 }
 
 // The microseconds since then; 0 where the clock fails.
-pub fn since(from: i64) -> u64 {
+pub fn since(rt: &impl CpuClock, from: i64) -> u64 {
     let before = whole(from);
-    let after = whole(libc::clock());
+    let after = whole(now(rt));
     if from < 0 || after < before {
         return 0;
     }

@@ -11,7 +11,7 @@ use vendor::answer::TableAnswer;
 use vendor::correct::correct_quotes;
 
 // An answer, with the table that was lent.
-#[derive(Drop)]
+#[derive(Clone, Copy)]
 pub struct TableCorrected {
     pub answer: TableAnswer,
     pub rows: [Quote; 1024],

@@ -1,5 +1,7 @@
 // The broker's calls on lent lists, and the vendor's correction, for a caller whose lists are arrays:
 // each lends the first rows of its arrays.
+#![tactic(auto)]
+
 ghost use Rattle.std.specs.Prelude.{◌≡◌, min};
 ghost use Rattle.broker.specs.Lent.{build_for};
 ghost use Rattle.lent.specs.Answers.{AnswersCheck, AnswersSend, AnswersWalk, AnswersUpdate};
@@ -18,16 +20,17 @@ use market::order::{Order, OrderEvent};
 use market::quote::Quote;
 use market::trade::Trade;
 use market::weight::Weight;
+use std::time::CpuClock;
 
 // An answer, and the microseconds of processor time that the call took.
-#[derive(Drop)]
+#[derive(Clone, Copy)]
 pub struct CheckedList {
     pub answer: CheckAnswer,
     pub micros: u64,
 }
 
 // The same, with the list of events that was lent.
-#[derive(Drop)]
+#[derive(Clone, Copy)]
 pub struct UpdatedList {
     pub answer: UpdateAnswer,
     pub events: [OrderEvent; 1024],
@@ -35,14 +38,14 @@ pub struct UpdatedList {
 }
 
 // An answer, with the list of events that was lent.
-#[derive(Drop)]
+#[derive(Clone, Copy)]
 pub struct SentList {
     pub answer: SendAnswer,
     pub events: [OrderEvent; 1024],
 }
 
 // An answer, with the list of orders that was lent.
-#[derive(Drop)]
+#[derive(Clone, Copy)]
 pub struct WalkedList {
     pub answer: WalkAnswer,
     pub orders: [Order; 1024],
@@ -107,7 +110,7 @@ pub fn walked(answer: WalkAnswer, orders: [Order; 1024]) -> WalkedList
 }
 
 // The rows of a line's tables and weights, and the length of the lent list for events or orders.
-#[derive(Drop)]
+#[derive(Clone, Copy)]
 pub struct Lists {
     pub tradable: [Quote; 512],
     pub first: usize,
@@ -119,7 +122,7 @@ pub struct Lists {
 }
 
 // Orders, and the length of the lent list for their events.
-#[derive(Drop)]
+#[derive(Clone, Copy)]
 pub struct Orders {
     pub list: [Order; 1024],
     pub count: usize,
@@ -196,16 +199,16 @@ pub fn build_on(costs: TradeCosts, lot: u32, x: Lists, log: &[Trade]) -> Built
 }
 
 // A check; its time is left free.
-pub fn check_on(b: UistBroker, x: Lists, log: &mut [Trade]) -> CheckedList
+pub fn check_on(rt: &impl CpuClock, b: UistBroker, x: Lists, log: &mut [Trade]) -> CheckedList
     ensures { AnswersCheck b (tradable_in x) (fetched_in x) log.old result.answer log.new }
 {
     let t = tradable_in(x);
     let f = fetched_in(x);
     let k = tradable_rows(x);
     let l = fetched_rows(x);
-    let from = clock::now();
+    let from = clock::now(rt);
     let y = uist::check(b, &t[..k], &f[..l], log);
-    let micros = clock::since(from);
+    let micros = clock::since(rt, from);
     checked(y, micros)
 }
 
@@ -234,7 +237,7 @@ pub fn walk_on(b: UistBroker, x: Lists) -> WalkedList
 }
 
 // An update; its time is left free, and past the entries lent the array of events stays blank.
-pub fn update_on(b: UistBroker, x: Lists, log: &mut [Trade]) -> UpdatedList
+pub fn update_on(rt: &impl CpuClock, b: UistBroker, x: Lists, log: &mut [Trade]) -> UpdatedList
     ensures { AnswersUpdate b (tradable_in x) (fetched_in x) (weights_in x) (lent_of x.room blank_events) log.old result.answer (lent_of x.room result.events) log.new × (past_lent x.room result.events ≡ past_lent x.room blank_events) }
 {
     let t = tradable_in(x);
@@ -245,8 +248,8 @@ pub fn update_on(b: UistBroker, x: Lists, log: &mut [Trade]) -> UpdatedList
     let m = weight_rows(x);
     let r = event_rows(x);
     let mut events = no_events();
-    let from = clock::now();
+    let from = clock::now(rt);
     let y = uist::update(b, &t[..k], &f[..l], &w[..m], &mut events[..r], log);
-    let micros = clock::since(from);
+    let micros = clock::since(rt, from);
     updated(y, events, micros)
 }

@@ -14,25 +14,25 @@ use reads::uist;
 use reads::uist::ListRead;
 
 // An answer, with the list that was lent.
-#[derive(Drop)]
+#[derive(Clone, Copy)]
 pub struct PositionsRead {
     pub answer: ListRead,
     pub rows: [u32; 1024],
 }
 
-#[derive(Drop)]
+#[derive(Clone, Copy)]
 pub struct HoldingsRead {
     pub answer: ListRead,
     pub rows: [Holding; 1024],
 }
 
-#[derive(Drop)]
+#[derive(Clone, Copy)]
 pub struct QuotesRead {
     pub answer: ListRead,
     pub rows: [Quote; 1024],
 }
 
-#[derive(Drop)]
+#[derive(Clone, Copy)]
 pub struct CostsRead {
     pub answer: ListRead,
     pub rows: [Cost; 1024],

@@ -1,7 +1,7 @@
 -- What a line says: the forms of docs/SCENARIOS.md, "The calls", over the words of the line. A line of no form is malformed, and says
 -- nothing else. Definitions only.
 use Rattle.std.specs.Prelude.{ℕ, Bool, true, false, ◌||◌, cond, ◌≡◌, List, [], map, leb, Float, drop}
-use Rattle.std.proofs.Math.Option.{Option, none, some, Option·elim}
+use Rattle.std.proofs.Math.Option.{Option, none, some, Option-elim}
 use Rattle.market.specs.Orders.{zero64, blank_order}
 use Rattle.market.specs.declared.order.Order.{Order}
 use Rattle.market.specs.declared.quote.Quote.{Quote}
@@ -73,7 +73,7 @@ unfoldable pub said_if : Bool → Said → Said
 said_if ok s = cond ok s (plainly Malformed)
 
 abbrev pub formed : {A : Type 0} → Option A → (A → Said) → Said
-formed o f = Option·elim o (plainly Malformed) f
+formed o f = Option-elim o (plainly Malformed) f
 
 -- ---- a verb alone, or with one word that is the line's last
 
@@ -142,7 +142,7 @@ pub record Lotted : Type 0 where
 
 -- the lot, which may be left out: the first word's number and the words behind it; where it is none, 1 and the words as they are
 unfoldable pub lot_at : Words → Lotted
-lot_at ws = Option·elim (lot_of (first_of ws)) (record { lot = 1; behind = ws }) (λ n. record { lot = n; behind = rest_of ws })
+lot_at ws = Option-elim (lot_of (first_of ws)) (record { lot = 1; behind = ws }) (λ n. record { lot = n; behind = rest_of ws })
 
 -- LOG lot:LOT COST* / QUOTE*, where the lot may be left out: what stands behind LOG, and all of it
 abbrev pub said_built : Verb → ℕ → Lotted → Said

@@ -17,7 +17,7 @@ use words::word::Word;
 use words::{number, word};
 
 // What a line asks for. What its verb does not use is 0.
-#[derive(Drop)]
+#[derive(Clone, Copy)]
 pub struct Call {
     pub verb: Verb,
     pub log: u64,
@@ -97,7 +97,7 @@ fn only_at(line: &[u8], at: usize) -> Word
 }
 
 // A whole number, and where the words behind it are looked for.
-#[derive(Drop)]
+#[derive(Clone, Copy)]
 struct WholeAt {
     read: WholeRead,
     next: usize,
@@ -116,7 +116,7 @@ fn whole_at(line: &[u8], at: usize) -> WholeAt
 }
 
 // A float, and where the words behind it are looked for.
-#[derive(Drop)]
+#[derive(Clone, Copy)]
 struct AmountAt {
     read: FloatRead,
     next: usize,
@@ -135,7 +135,7 @@ fn amount_at(line: &[u8], at: usize) -> AmountAt
 }
 
 // A new broker's lot, which is 1 where the word is none, and where the words behind it are looked for.
-#[derive(Drop)]
+#[derive(Clone, Copy)]
 struct LotAt {
     lot: u32,
     next: usize,
@@ -234,7 +234,7 @@ fn with_order(line: &[u8], at: usize, verb: Verb) -> Call
 }
 
 // The length of a lent list, at most 1,024.
-#[derive(Drop)]
+#[derive(Clone, Copy)]
 enum Room {
     Of(usize),
     Malformed,

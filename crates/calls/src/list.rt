@@ -1,4 +1,6 @@
 // Lists of rows in a line: they end at a `/` or at the line's end.
+#![tactic(auto, unfolding(crate::specs::Lists::is_row, crate::specs::Lists::order_or_blank, crate::specs::Lists::quote_or_blank, crate::specs::Lists::vendor_or_blank, crate::specs::Lists::weight_or_blank, crate::specs::Lists::cost_or_blank))]
+
 ghost use Rattle.std.specs.Prelude.{◌≡◌, drop};
 ghost use Rattle.words.specs.Words.{words_of};
 ghost use Rattle.calls.specs.Lists.{is_slash, is_row, list_of, spanned, order_or_blank, quote_or_blank, vendor_or_blank, weight_or_blank, cost_or_blank, read_orders, read_quotes, read_vendors, read_weights, read_costs};
@@ -12,7 +14,7 @@ use rows::{CostRead, OrderRead, QuoteRead, VendorRead, WeightRead};
 use words::word;
 
 // What the words of a list are.
-#[derive(Drop)]
+#[derive(Clone, Copy)]
 pub enum RowKind {
     Cost,
     Order,
@@ -23,7 +25,7 @@ pub enum RowKind {
 
 // A list: where its first word is looked for, how many rows it has, and where the words after it
 // are looked for.
-#[derive(Drop)]
+#[derive(Clone, Copy)]
 pub struct Span {
     pub at: usize,
     pub count: usize,
@@ -31,7 +33,7 @@ pub struct Span {
 }
 
 // The list that the words at a place are, or words that are none.
-#[derive(Drop)]
+#[derive(Clone, Copy)]
 pub enum SpanRead {
     Of(Span),
     Malformed,

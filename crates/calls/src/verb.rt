@@ -4,7 +4,7 @@ ghost use Rattle.calls.specs.Verbs.{named_or, verb_in, symbol_readers, room_read
 
 use words::word;
 
-#[derive(Drop)]
+#[derive(Clone, Copy)]
 pub enum Verb {
     Blank,
     Malformed,

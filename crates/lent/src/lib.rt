@@ -1,5 +1,7 @@
 // The functions whose lists are lent as slices of structs: a table is read, a log written, and the
 // exchange's ticks and the broker's calls run on both.
+#![tactic(auto)]
+
 mod folds;
 mod log;
 mod store;

@@ -34,7 +34,7 @@ use portfolio::value::Amount;
 use turnover::lesser;
 
 // How many orders traded, how many sells were queued, and the number drawn, or 0.
-#[derive(Drop)]
+#[derive(Clone, Copy)]
 pub struct CheckAnswer {
     pub broker: UistBroker,
     pub traded: usize,
@@ -43,21 +43,21 @@ pub struct CheckAnswer {
 }
 
 // The number drawn, or 0.
-#[derive(Drop)]
+#[derive(Clone, Copy)]
 pub struct SendAnswer {
     pub broker: UistBroker,
     pub fault: u32,
 }
 
 // How many orders were written, and the number drawn, or 0.
-#[derive(Drop)]
+#[derive(Clone, Copy)]
 pub struct WalkAnswer {
     pub count: usize,
     pub fault: u32,
 }
 
 // The total value, how many events were written, and the number drawn, or 0.
-#[derive(Drop)]
+#[derive(Clone, Copy)]
 pub struct UpdateAnswer {
     pub broker: UistBroker,
     pub total: f64,

@@ -3,14 +3,15 @@ use Rattle.std.specs.Prelude.{ℕ, min, true, List, [], ◌∷◌, ltb, ℤ, Flo
 use Rattle.std.proofs.Math.Option.{Option, none, some}
 use Rattle.lists.specs.Lists.{gather, given}
 use Rattle.market.specs.Faults.{Test, ◌draws◌, drawn, unless_drawn}
-use Rattle.market.specs.Quotes.{row_tests, listing}
+use Rattle.market.specs.Quotes.{row_tests}
+pub use Rattle.market.specs.Quotes.{listing}
 use Rattle.market.specs.Rows.{rows_tests}
 use Rattle.market.specs.declared.quote.Quote.{Quote}
 use Rattle.words.specs.Words.{split}
 use Rattle.lines.specs.Lines.{Line, line_in, quote_of, capped_quote}
 use Rattle.lines.specs.declared.line.LineRead.{LineRead}
 use Rattle.lines.specs.declared.line.LineRead.TheVariants.{Of, Malformed}
-use Rattle.market.specs.declared.table.QuoteRows.{QuoteRows}
+pub use Rattle.market.specs.declared.table.QuoteRows.{QuoteRows}
 
 -- ---- the lines
 

@@ -12,7 +12,7 @@ use words::number::{FloatRead, SignedRead, WholeRead};
 use words::{number, word};
 
 // The row that a line says, or a text that is no line. A symbol above 255 is 256 here.
-#[derive(Drop)]
+#[derive(Clone, Copy)]
 pub enum LineRead {
     Of(Quote),
     Malformed,

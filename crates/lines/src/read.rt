@@ -6,8 +6,10 @@ ghost use Rattle.lines.specs.Reading.{lines_read, read_of};
 use crate::line;
 use crate::line::LineRead;
 use market::quote::Quote;
-use market::table::QuoteRows;
 use words::word;
+
+// A table that was read, declared by crate `market` and named here as well.
+pub use market::table::QuoteRows;
 
 // No rows, and a number.
 fn refused(fault: u32) -> QuoteRows

@@ -9,7 +9,7 @@ use numerals::spelled;
 use numerals::spelled::Spelled;
 
 // How many bytes were written, and the number drawn, or 0.
-#[derive(Drop)]
+#[derive(Clone, Copy)]
 pub struct Written {
     pub bytes: usize,
     pub fault: u32,

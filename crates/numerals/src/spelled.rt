@@ -8,7 +8,7 @@ ghost use Rattle.numerals.specs.Numerals.{glyph, last_digits, places, digits, da
 use words::number;
 
 // The first `count` bytes are the text.
-#[derive(Drop)]
+#[derive(Clone, Copy)]
 pub struct Spelled {
     pub bytes: [u8; 20],
     pub count: usize,

@@ -4,7 +4,7 @@ use mathlib.Core.Path.{◌≡◌, refl, ap, ap₂, sym, ◌∙◌}
 use mathlib.Core.List.{List, ◌++◌}
 use native.Mathlib.Nat.{zero-add}
 use native.Mathlib.Omega.{arith}
-use lib.ListN.{length, drop, length-take}
+use lib.ListN.{length, take, drop, length-take}
 use lib.Seq.{paste, paste-zero}
 use borrow.Author.Tests.{ltb-false}
 use Rattle.lists.specs.Lists.{over}
@@ -15,6 +15,10 @@ use Rattle.broker.specs.declared.state.UistBroker.{UistBroker}
 use Rattle.reads.specs.Rows.{Keeps}
 use Rattle.reads.specs.Answers.{list_fault, read_of, AnswersList}
 use Rattle.reads.specs.declared.uist.ListRead.{ListRead}
+
+-- equal rows and an equal count are kept as well
+pub same_rows : {A : Type 0} {rows kept : List A} {n : ℕ} → Keeps rows kept n → (kept' : List A) (n' : ℕ) → kept' ≡ kept → n' ≡ n → Keeps rows kept' n'
+same_rows {A} k kept' n' e f = record { first = ap₂ (λ (i : ℕ) (l : List A). take i l) f e ∙ k.first; count = f ∙ k.count }
 
 -- the array `kept` has n rows, and those that are read are stored from the first place of the list l on
 module _ {A : Type 0} (b : UistBroker) (rows kept l : List A) (n : ℕ) (keeps : Keeps rows kept n) (r : ListRead) (is : r ≡ read_of b n (length l)) where

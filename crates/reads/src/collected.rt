@@ -9,19 +9,19 @@ use costs::TradeCosts;
 use market::quote::Quote;
 
 // How much of a symbol is held, or pending.
-#[derive(Drop)]
+#[derive(Clone, Copy)]
 pub struct Holding {
     pub symbol: u32,
     pub quantity: f64,
 }
 
-#[derive(Drop)]
+#[derive(Clone, Copy)]
 pub struct HoldingList {
     pub rows: [Holding; 256],
     pub count: usize,
 }
 
-#[derive(Drop)]
+#[derive(Clone, Copy)]
 pub struct QuoteList {
     pub rows: [Quote; 256],
     pub count: usize,

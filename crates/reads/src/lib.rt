@@ -1,5 +1,7 @@
 // The broker's lists, read to lent lists: positions, holdings, pending orders, quotes and trade costs
 // (`get_positions` and its like of the Rust).
+#![tactic(auto)]
+
 pub mod collected;
 mod store;
 pub mod uist;

@@ -14,7 +14,7 @@ use market::fault;
 use market::quote::Quote;
 
 // How many rows were written, and the number drawn, or 0.
-#[derive(Drop)]
+#[derive(Clone, Copy)]
 pub struct ListRead {
     pub count: usize,
     pub fault: u32,

@@ -3,7 +3,7 @@
 use calls::verb::Verb;
 
 // What a word has to be; nothing where there is none.
-#[derive(Drop)]
+#[derive(Clone, Copy)]
 pub enum Want {
     Nothing,
     Float,

@@ -1,5 +1,7 @@
 // Why a line is malformed: the first of its words that is not what the form of its call wants there,
 // and a reason of a fixed list, which docs/SCENARIOS.md has. It is asked of malformed lines alone.
+#![tactic(auto)]
+
 ghost use Rattle.std.specs.Prelude.{◌≤◌, length};
 
 pub mod form;
@@ -12,7 +14,7 @@ use words::word::Word;
 use wrong::Why;
 
 // The word of the line that is wrong, the call's name being the first, and the reason.
-#[derive(Drop)]
+#[derive(Clone, Copy)]
 pub struct Reason {
     pub word: u64,
     pub why: Why,
@@ -28,7 +30,7 @@ pub fn too_long() -> Reason {
 
 // Where the reading of a line stands: at the fixed word of this number, or, behind the last of them, in
 // the list of this number, behind `count` rows.
-#[derive(Drop)]
+#[derive(Clone, Copy)]
 struct Place {
     verb: Verb,
     fixed: usize,

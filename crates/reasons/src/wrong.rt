@@ -4,7 +4,7 @@ use words::number::{FloatRead, SignedRead, WholeRead};
 use words::{number, word};
 
 // The reasons; `Nothing` where a word is what is wanted.
-#[derive(Drop)]
+#[derive(Clone, Copy)]
 pub enum Why {
     Nothing,
     UnknownCall,
@@ -147,7 +147,7 @@ fn cost_name(w: &[u8]) -> Why {
 }
 
 // What a part of a row has to be.
-#[derive(Drop)]
+#[derive(Clone, Copy)]
 enum Part {
     Kind,
     CostName,

@@ -1,7 +1,7 @@
 -- Orders, quotes, vendor quotes, weights, costs and lots as words: the last rows of the table of words in docs/SCENARIOS.md. A word is a row
 -- where it has the row's number of parts and each part is of its form. Definitions only.
 use Rattle.std.specs.Prelude.{ℕ, cond, List, eqb, leb, Float, length}
-use Rattle.std.proofs.Math.Option.{Option, none, some, Option·elim}
+use Rattle.std.proofs.Math.Option.{Option, none, some, Option-elim}
 use Rattle.market.specs.Orders.{market_order, priced_order}
 use Rattle.market.specs.declared.order.Order.{Order}
 use Rattle.market.specs.declared.order.OrderType.{OrderType}
@@ -38,7 +38,7 @@ of_parts n w x = cond (eqb (length (split 58 w)) n) x none
 
 -- what is made of a part that is of its form
 abbrev pub of_part : {A B : Type 0} → Option A → (A → Option B) → Option B
-of_part o f = Option·elim o none f
+of_part o f = Option-elim o none f
 
 -- KIND: market, limit or stop, buy or sell
 unfoldable pub kind_of : List ℕ → Option OrderType
@@ -73,6 +73,16 @@ order_of w =
     of_part (price_of (part_of w 3)) (λ price.
     some (order_at kind symbol shares price))))))
 
+-- QUOTE: SYMBOL:BID:ASK:DATE
+unfoldable pub quote_of : List ℕ → Option Quote
+quote_of w =
+    of_parts 4 w
+    (of_part (symbol_of (part_of w 0)) (λ symbol.
+    of_part (float_of (part_of w 1)) (λ bid.
+    of_part (float_of (part_of w 2)) (λ ask.
+    of_part (signed_of (part_of w 3)) (λ date.
+    some (record { symbol = symbol; bid = bid; ask = ask; date = date }))))))
+
 -- SYMBOL:BID:ASK:DATE, the first four parts of a word
 unfoldable pub quote_parts : List ℕ → Option Quote
 quote_parts w =
@@ -81,10 +91,6 @@ quote_parts w =
     of_part (float_of (part_of w 2)) (λ ask.
     of_part (signed_of (part_of w 3)) (λ date.
     some (record { symbol = symbol; bid = bid; ask = ask; date = date })))))
-
--- QUOTE: SYMBOL:BID:ASK:DATE
-unfoldable pub quote_of : List ℕ → Option Quote
-quote_of w = of_parts 4 w (quote_parts w)
 
 -- REVISION: a WHOLE, at most 255
 abbrev pub revision_from : Option ℕ → Option ℕ

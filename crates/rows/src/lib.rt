@@ -1,4 +1,6 @@
 // Orders, quotes, vendor quotes, weights, costs and lots as words.
+#![tactic(auto, unfolding(crate::specs::Rows::kind_of, crate::specs::Rows::price_of, crate::specs::Rows::order_of, crate::specs::Rows::quote_parts, crate::specs::Rows::quote_of, crate::specs::Rows::revision_of, crate::specs::Rows::vendor_of, crate::specs::Rows::weight_of, crate::specs::Rows::cost_named, crate::specs::Rows::cost_of, crate::specs::Rows::lot_of))]
+
 ghost use Rattle.std.specs.Prelude.{◌≡◌};
 ghost use Rattle.words.specs.Numbers.{whole_in, symbol_in, symbol_of, signed_in, signed_of, float_in, float_of};
 ghost use Rattle.words.specs.Words.{part_of};
@@ -13,56 +15,56 @@ use words::number::{FloatRead, SignedRead, SymbolRead, WholeRead};
 use words::{number, word};
 
 // The row that a word is, or a word that is none.
-#[derive(Drop)]
+#[derive(Clone, Copy)]
 pub enum OrderRead {
     Of(Order),
     Malformed,
 }
 
-#[derive(Drop)]
+#[derive(Clone, Copy)]
 pub enum QuoteRead {
     Of(Quote),
     Malformed,
 }
 
-#[derive(Drop)]
+#[derive(Clone, Copy)]
 pub enum VendorRead {
     Of(VendorQuote),
     Malformed,
 }
 
-#[derive(Drop)]
+#[derive(Clone, Copy)]
 pub enum WeightRead {
     Of(Weight),
     Malformed,
 }
 
-#[derive(Drop)]
+#[derive(Clone, Copy)]
 pub enum CostRead {
     Of(BrokerCost),
     Malformed,
 }
 
-#[derive(Drop)]
+#[derive(Clone, Copy)]
 pub enum LotRead {
     Of(u32),
     Malformed,
 }
 
-#[derive(Drop)]
+#[derive(Clone, Copy)]
 enum KindRead {
     Of(OrderType),
     Malformed,
 }
 
-#[derive(Drop)]
+#[derive(Clone, Copy)]
 enum RevisionRead {
     Of(u8),
     Malformed,
 }
 
 // A price, or the `-` of an order that has none.
-#[derive(Drop)]
+#[derive(Clone, Copy)]
 enum PriceRead {
     Of(f64),
     Unpriced,

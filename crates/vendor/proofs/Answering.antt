@@ -7,8 +7,6 @@ use mathlib.Core.Path.{◌≡◌, refl, sym, ◌∙◌, ap, ap₂, subst}
 use mathlib.Core.List.{List, ◌++◌, append_assoc}
 use lib.ListN.{length, take, drop, replicate, take-append-drop}
 use lib.Seq.{paste, length-take-le, drop-append-le}
-use mir.Syntax.{w64}
-use mir.Val.{vint}
 use Rattle.lists.specs.Lists.{over}
 use Rattle.lists.proofs.Over.{paste-over}
 use Rattle.market.specs.Quotes.{blank_quote, listing, table_of}
@@ -23,28 +21,29 @@ use Rattle.lines.proofs.Tables.{table-fault, table-written}
 use Rattle.lines.proofs.Theorems.{rows_fit}
 use Rattle.vendor.specs.Answers.{AnswersRead, AnswersWrite, lines_answer, read_on}
 use Rattle.vendor.specs.declared.answer.TableAnswer.{TableAnswer}
+use Rattle.vendor.specs.declared.quote_lines.LinesRead.{LinesRead}
 use Rattle.vendor.specs.declared.on_arrays.TableRead.{TableRead}
 
 -- ---- rows and a number, which stand in x, stored in a lent table
 
 module _ (l : List Quote) (fault : ℕ) (x : QuoteRows) (is : x ≡ listing l fault) where
-  count-is : x.count ≡ length l
-  count-is = ap (λ (y : QuoteRows). y.count) is
+  listing-count : x.count ≡ length l
+  listing-count = ap (λ (y : QuoteRows). y.count) is
 
-  rows_are : x.rows ≡ over l (replicate 257 blank_quote)
-  rows_are = ap (λ (y : QuoteRows). y.rows) is
+  listing-rows : x.rows ≡ over l (replicate 257 blank_quote)
+  listing-rows = ap (λ (y : QuoteRows). y.rows) is
 
   -- they fit the array, and a table of `room` rows
-  pub rows-within : (room n : ℕ) → length l ≤ min room 256 → n ≡ x.count → (n ≤ 257) × (n ≤ room)
-  rows-within room n few e = (omega (arith, few, e, count-is), omega (arith, few, e, count-is))
+  pub listing-within : (room n : ℕ) → length l ≤ min room 256 → n ≡ x.count → (n ≤ 257) × (n ≤ room)
+  listing-within room n few e = (omega (arith, few, e, listing-count), omega (arith, few, e, listing-count))
 
-  pub answer-is : (z : TableAnswer) → z ≡ record { rows = x.count; fault = x.fault } → z ≡ record { rows = length l; fault = fault }
-  answer-is z e = e ∙ ap (λ (y : QuoteRows). record { rows = y.count; fault = y.fault }) is
+  pub listing-answer : (z : TableAnswer) → z ≡ record { rows = x.count; fault = x.fault } → z ≡ record { rows = length l; fault = fault }
+  listing-answer z e = e ∙ ap (λ (y : QuoteRows). record { rows = y.count; fault = y.fault }) is
 
   -- they are stored from the table's first place on
-  pub stored-rows : (table rows : List Quote) (n : ℕ) → rows ≡ x.rows → n ≡ x.count → paste table 0 rows n ≡ over l table
-  stored-rows table rows n e f =
-      ap₂ (λ (k : List Quote) (i : ℕ). paste table 0 k i) (e ∙ rows_are) (f ∙ count-is)
+  pub listing-stored : (table rows : List Quote) (n : ℕ) → rows ≡ x.rows → n ≡ x.count → paste table 0 rows n ≡ over l table
+  listing-stored table rows n e f =
+      ap₂ (λ (k : List Quote) (i : ℕ). paste table 0 k i) (e ∙ listing-rows) (f ∙ listing-count)
       ∙ paste-over table 0 l (replicate 257 blank_quote) (length l) refl
       ∙ ap (λ (i : ℕ). l ++ drop i table) (zero-add (length l))
 
@@ -54,17 +53,21 @@ module _ (s : List ℕ) (room : ℕ) (x : QuoteRows) (is : x ≡ read_of room s)
   listed : x ≡ listing (rows_read room s) (read_fault room s)
   listed = is ∙ read_is room s
 
-  pub read-within : (n : ℕ) → n ≡ x.count → (n ≤ 257) × (n ≤ room)
-  read-within n e = rows-within (rows_read room s) (read_fault room s) x listed room n (rows_fit room s) e
+  -- the rows fit the array, and the table
+  pub rows-within : (n : ℕ) → n ≡ x.count → (n ≤ 257) × (n ≤ room)
+  rows-within n e = listing-within (rows_read room s) (read_fault room s) x listed room n (rows_fit room s) e
 
-pub read-answers : (s : List ℕ) (table after rows : List Quote) (x : QuoteRows) (n : ℕ) (z : TableAnswer) → x ≡ read_of (length table) s → rows ≡ x.rows → n ≡ x.count →
+  pub answer-is : (z : LinesRead) → z ≡ record { rows = x.count; fault = x.fault } → z ≡ lines_answer room s
+  answer-is z e = e ∙ ap (λ (y : QuoteRows). record { rows = y.count; fault = y.fault }) listed
+
+  -- they are stored from the table's first place on
+  pub stored-rows : (table rows : List Quote) (n : ℕ) → rows ≡ x.rows → n ≡ x.count → paste table 0 rows n ≡ over (rows_read room s) table
+  stored-rows = listing-stored (rows_read room s) (read_fault room s) x listed
+
+pub read-answers : (s : List ℕ) (table after rows : List Quote) (x : QuoteRows) (n : ℕ) (z : LinesRead) → x ≡ read_of (length table) s → rows ≡ x.rows → n ≡ x.count →
     after ≡ paste table 0 rows n → z ≡ record { rows = x.count; fault = x.fault } → AnswersRead s table z after
 read-answers s table after rows x n z is_x is-rows is-n stored is-z =
-    let room = length table in
-    let l = rows_read room s in
-    let fault = read_fault room s in
-    let is = listed s room x is_x in
-    record { answer = answer-is l fault x is z is-z; table_is = stored ∙ stored-rows l fault x is table rows n is-rows is-n }
+    record { answer = answer-is s (length table) x is_x z is-z; table_is = stored ∙ stored-rows s (length table) x is_x table rows n is-rows is-n }
 
 -- ---- the text of a table
 
@@ -86,16 +89,13 @@ module _ {A : Type 0} (l : List A) (k n : ℕ) (least : k ≡ min n 257) (long :
   lent : length (take k l) ≡ k
   lent = length-take-le k l within
 
-  pub count-within : vint w64 k ≡ vint w64 (length (take k l))
-  count-within = ap (vint w64) (sym lent)
-
 -- rows that were stored in the first n places of a list stand in the whole list
 pub stored-part : {A : Type 0} (k l : List A) (n : ℕ) → length k ≤ n → n ≤ length l → over k (take n l) ++ drop n l ≡ over k l
 stored-part {A} k l n short fits =
     append_assoc k (drop (length k) (take n l)) (drop n l)
     ∙ ap (λ (z : List A). k ++ z) (sym (drop-append-le (length k) (take n l) (drop n l) (omega (arith, short, length-take-le n l fits))) ∙ ap (drop (length k)) (take-append-drop n l))
 
-pub read-on-answers : (s : List ℕ) (room n : ℕ) (e after : List Quote) (y : TableAnswer) (z : TableRead) → n ≡ min room 257 → e ≡ replicate 257 blank_quote → length e ≡ 257 →
+pub read-on-answers : (s : List ℕ) (room n : ℕ) (e after : List Quote) (y : LinesRead) (z : TableRead) → n ≡ min room 257 → e ≡ replicate 257 blank_quote → length e ≡ 257 →
     AnswersRead s (take n e) y after → z ≡ record { answer = y; rows = after ++ drop n e } → z ≡ read_on s room
 read-on-answers s room n e after y z is-n is-e long done is-z =
     let m = length (take n e) in
@@ -106,7 +106,7 @@ read-on-answers s room n e after y z is-n is-e long done is-z =
     ∙ stored-part k e n (omega (arith, rows_fit m s, lent e n room is-n long)) (within e n room is-n long)
     ∙ ap (over k) is-e in
     is-z
-    ∙ ap₂ (λ (x : TableAnswer) (l : List Quote). record { answer = x; rows = l }) done.answer rows
+    ∙ ap₂ (λ (x : LinesRead) (l : List Quote). record { answer = x; rows = l }) done.answer rows
     ∙ ap (λ (i : ℕ). record { answer = lines_answer i s; rows = over (rows_read i s) (replicate 257 blank_quote) }) here
 
 pub write-on-answers : (rows : List Quote) (n k : ℕ) (out after : List ℕ) (z : Written) → k ≡ min n 257 → AnswersWrite (take k rows) out z after → AnswersWrite (take (min n 257) rows) out z after

@@ -23,7 +23,7 @@ use Rattle.corrections.proofs.Drawing.{none-corrects, short-table, many-rows}
 use Rattle.lent.proofs.Reading.{read-rows}
 use Rattle.vendor.specs.Corrects.{AnswersCorrect}
 use Rattle.vendor.specs.declared.answer.TableAnswer.{TableAnswer}
-use Rattle.vendor.proofs.Answering.{rows-within, answer-is, stored-rows}
+use Rattle.vendor.proofs.Answering.{listing-within, listing-answer, listing-stored}
 
 -- ---- the rows shown: at most one for each of 256 symbols, and none where the table has fewer places
 
@@ -84,7 +84,7 @@ module _ (room m : ℕ) (rows blank kept : List VendorQuote) (x : QuoteRows) (is
   listed = is_x ∙ loaded-by (ltb 1024 n) refl
 
   pub shown-within : (k : ℕ) → k ≡ x.count → (k ≤ 257) × (k ≤ room)
-  shown-within k e = rows-within (rows_shown room n rows) (correct_fault room n rows) x listed room k (shown-fit room n rows) e
+  shown-within k e = listing-within (rows_shown room n rows) (correct_fault room n rows) x listed room k (shown-fit room n rows) e
 
 pub correct-answers : (rows blank kept : List VendorQuote) (table after out : List Quote) (m k : ℕ) (x : QuoteRows) (z : TableAnswer) →
     m ≡ min (length rows) 1024 → kept ≡ paste blank 0 rows m → x ≡ corrected_for (length table) (length rows) (take (length rows) kept) → out ≡ x.rows → k ≡ x.count →
@@ -95,4 +95,4 @@ correct-answers rows blank kept table after out m k x z is_m loaded is_x is-out 
     let l = rows_shown room n rows in
     let fault = correct_fault room n rows in
     let is = listed room m rows blank kept x is_m loaded is_x in
-    record { answer = answer-is l fault x is z is-z; table_is = stored ∙ stored-rows l fault x is table out k is-out is-k }
+    record { answer = listing-answer l fault x is z is-z; table_is = stored ∙ listing-stored l fault x is table out k is-out is-k }

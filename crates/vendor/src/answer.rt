@@ -6,7 +6,7 @@ use market::quote::Quote;
 use market::table::QuoteRows;
 
 // How many rows were written to a lent table, and the number drawn, or 0.
-#[derive(Drop)]
+#[derive(Clone, Copy)]
 pub struct TableAnswer {
     pub rows: usize,
     pub fault: u32,

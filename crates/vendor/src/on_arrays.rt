@@ -3,15 +3,14 @@ ghost use Rattle.std.specs.Prelude.{◌≡◌, min, take, replicate};
 ghost use Rattle.market.specs.Quotes.{blank_quote};
 ghost use Rattle.vendor.specs.Answers.{read_on, AnswersWrite};
 
-use crate::answer::TableAnswer;
-use crate::quote_lines::{read_lines, write_lines};
+use crate::quote_lines::{LinesRead, read_lines, write_lines};
 use lines::write::Written;
 use market::quote::Quote;
 
 // An answer, with the table that was lent.
-#[derive(Drop)]
+#[derive(Clone, Copy)]
 pub struct TableRead {
-    pub answer: TableAnswer,
+    pub answer: LinesRead,
     pub rows: [Quote; 257],
 }
 
@@ -46,7 +45,7 @@ pub(crate) fn blank_rows() -> [Quote; 257]
     [q; 257]
 }
 
-pub(crate) fn table_read(answer: TableAnswer, rows: [Quote; 257]) -> TableRead
+pub(crate) fn table_read(answer: LinesRead, rows: [Quote; 257]) -> TableRead
     ensures { result ≡ record { answer = answer; rows = rows } }
 {
     TableRead {

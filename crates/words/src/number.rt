@@ -5,25 +5,25 @@ ghost use Rattle.std.specs.Float.Ieee.{of_bits};
 ghost use Rattle.words.specs.Numbers.{digit_of, whole_in, symbol_in, signed_in, float_in, with_digit, whole_of, symbol_of, positive_of, negated_of, signed_of, float_of};
 
 // The number that a text is, or a text that is none.
-#[derive(Drop)]
+#[derive(Clone, Copy)]
 pub enum WholeRead {
     Of(u64),
     Malformed,
 }
 
-#[derive(Drop)]
+#[derive(Clone, Copy)]
 pub enum SymbolRead {
     Of(u32),
     Malformed,
 }
 
-#[derive(Drop)]
+#[derive(Clone, Copy)]
 pub enum SignedRead {
     Of(i64),
     Malformed,
 }
 
-#[derive(Drop)]
+#[derive(Clone, Copy)]
 pub enum FloatRead {
     Of(f64),
     Malformed,

@@ -1,0 +1,20 @@
+-- `verb::mover` meets its contract: the names are tested from the last one on. Assumes nothing.
+use Rattle.calls.specs.Verbs.{verb_in}
+use Rattle.calls.proofs.Verbs.{row_of}
+use Rattle.calls.proofs.verb.mover.Goals as goal
+
+pub returns : goal.returns
+unfolding verb_in
+returns c = row_of _ _ _ c.named_or.ensures
+    (row_of _ _ _ c.named_or-v-11.ensures
+    (row_of _ _ _ c.named_or-v-10.ensures
+    (row_of _ _ _ c.named_or-v-9.ensures
+    (row_of _ _ _ c.named_or-v-8.ensures
+    (row_of _ _ _ c.named_or-v-7.ensures
+    (row_of _ _ _ c.named_or-v-6.ensures
+    (row_of _ _ _ c.named_or-v-5.ensures
+    (row_of _ _ _ c.named_or-v-4.ensures
+    (row_of _ _ _ c.named_or-v-3.ensures
+    (row_of _ _ _ c.named_or-v-2.ensures
+    (row_of _ _ _ c.named_or-v.ensures
+    c.symbol_reader-v.ensures)))))))))))

@@ -1,0 +1,26 @@
+-- `spelled::date_text` meets its contract. Assumes nothing.
+use Prim.Native.Nat.{ℕ}
+use native.Mathlib.Omega.{arith}
+use mathlib.Core.Path.{sym, ap, ◌∙◌}
+use mathlib.Core.Bool.{true, false}
+use mathlib.Core.List.{◌∷◌}
+use lib.ListN.{replicate}
+use Rattle.numerals.specs.Numerals.{last_digits}
+use Rattle.numerals.proofs.Dates.{size_few, by_size}
+use Rattle.numerals.proofs.Stores.{spells}
+use Rattle.numerals.proofs.spelled.date_text.Goals as goal
+
+pub returns-then-date-ge0 : goal.returns-then-date-ge0
+returns-then-date-ge0 c = rw (by_size c.args.date c.ranges.date c.magnitude-n.result c.magnitude-n.ensures true c.if-date-ge0.true) c.decimal_text.ensures
+
+pub spell-requires : goal.spell-requires
+spell-requires c = (omega (arith, size_few c.args.date c.ranges.date c.magnitude-n.result c.magnitude-n.ensures), omega arith, omega arith)
+
+pub overflow_add-result : goal.overflow_add-result
+overflow_add-result c = omega (arith, size_few c.args.date c.ranges.date c.magnitude-n.result c.magnitude-n.ensures)
+
+pub returns : goal.returns
+returns c = let text =
+    by_size c.args.date c.ranges.date c.magnitude-n.result c.magnitude-n.ensures false c.if-date-ge0.false
+    ∙ ap (λ (j : ℕ). 45 ∷ last_digits 10 j c.magnitude-n.result) (sym c.places-k.ensures) in
+    spells (replicate 20 45) 1 10 c.places-k.result c.magnitude-n.result _ _ (omega arith) text (omega arith) c.spell.ensures

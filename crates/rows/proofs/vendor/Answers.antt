@@ -1,0 +1,18 @@
+-- `vendor` meets its contract. Assumes nothing.
+use Rattle.std.proofs.Common.{arith}
+use Rattle.std.proofs.lemmas.Grind.{common_steps}
+use mathlib.Core.Option.{Option-elim}
+use Rattle.rows.specs.Rows.{vendor_of}
+use Rattle.rows.proofs.vendor.Goals as goal
+
+pub returns-in_default : goal.returns-in_default
+unfolding vendor_of Option-elim
+returns-in_default c = grind (arith, common_steps)
+
+pub returns-in_default-revision_in : goal.returns-in_default-revision_in
+unfolding vendor_of Option-elim
+returns-in_default-revision_in c = grind (arith, common_steps)
+
+pub returns : goal.returns
+unfolding vendor_of Option-elim
+returns c = grind (arith, common_steps)
