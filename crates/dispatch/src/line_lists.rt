@@ -61,7 +61,7 @@ pub(crate) fn vendors_of(bytes: &[u8], x: Input, c: Call) -> [VendorQuote; 1100]
 }
 
 // A call, with its tables, weights and costs.
-#[derive(Drop)]
+#[derive(Clone, Copy)]
 pub struct Job {
     pub call: Call,
     pub lists: Lists,

@@ -11,6 +11,7 @@ use costs::TradeCosts;
 use lent::uist;
 use market::trade::Trade;
 use report::{answer, list_answers};
+use std::time::CpuClock;
 use text::out;
 
 // Is the log lent to this call?
@@ -99,52 +100,88 @@ pub(crate) fn unchanged(b: UistBroker, at: usize) -> Done {
 }
 
 // The answer's line ends.
-fn ended(t: &mut [u8; 65536], at: usize, broker: UistBroker, micros: u64) -> Done {
+fn ended(
+    rt: &(impl Print + Eprint),
+    t: &mut [u8; 65536],
+    at: usize,
+    broker: UistBroker,
+    micros: u64,
+) -> Done {
     Done {
         broker: broker,
         micros: micros,
-        at: out::put(t, at, b"\n"),
+        at: out::put(rt, t, at, b"\n"),
     }
 }
 
-pub(crate) fn check_done(t: &mut [u8; 65536], at: usize, y: CheckedList) -> Done {
+pub(crate) fn check_done(
+    rt: &(impl Print + Eprint),
+    t: &mut [u8; 65536],
+    at: usize,
+    y: CheckedList,
+) -> Done {
     let a = y.answer;
-    let n = answer::checked(t, at, a.fault, a.traded, a.queued);
+    let n = answer::checked(rt, t, at, a.fault, a.traded, a.queued);
     let broker = a.broker;
-    ended(t, n, broker, y.micros)
+    ended(rt, t, n, broker, y.micros)
 }
 
-pub(crate) fn update_done(t: &mut [u8; 65536], at: usize, u: UpdatedList) -> Done {
+pub(crate) fn update_done(
+    rt: &(impl Print + Eprint),
+    t: &mut [u8; 65536],
+    at: usize,
+    u: UpdatedList,
+) -> Done {
     let a = u.answer;
     let events = u.events;
-    let n = list_answers::updated(t, at, a.fault, a.total, events, a.sent);
+    let n = list_answers::updated(rt, t, at, a.fault, a.total, events, a.sent);
     let broker = a.broker;
-    ended(t, n, broker, u.micros)
+    ended(rt, t, n, broker, u.micros)
 }
 
-pub(crate) fn build_done(t: &mut [u8; 65536], d: Done, b: Built, from: i64) -> Done {
-    let micros = clock::since(from);
-    let n = answer::worded(t, d.at, b.fault, b"built");
+pub(crate) fn build_done(
+    rt: &(impl Print + Eprint + CpuClock),
+    t: &mut [u8; 65536],
+    d: Done,
+    b: Built,
+    from: i64,
+) -> Done {
+    let micros = clock::since(rt, from);
+    let n = answer::worded(rt, t, d.at, b.fault, b"built");
     let broker = b.broker;
-    ended(t, n, broker, micros)
+    ended(rt, t, n, broker, micros)
 }
 
-pub(crate) fn basis_done(t: &mut [u8; 65536], d: Done, a: AmountRead, from: i64) -> Done {
-    let micros = clock::since(from);
-    let n = answer::amount(t, d.at, a);
+pub(crate) fn basis_done(
+    rt: &(impl Print + Eprint + CpuClock),
+    t: &mut [u8; 65536],
+    d: Done,
+    a: AmountRead,
+    from: i64,
+) -> Done {
+    let micros = clock::since(rt, from);
+    let n = answer::amount(rt, t, d.at, a);
     let broker = d.broker;
-    ended(t, n, broker, micros)
+    ended(rt, t, n, broker, micros)
 }
 
-pub(crate) fn turnover_done(t: &mut [u8; 65536], d: Done, a: FloatRead, from: i64) -> Done {
-    let micros = clock::since(from);
-    let n = answer::float(t, d.at, a);
+pub(crate) fn turnover_done(
+    rt: &(impl Print + Eprint + CpuClock),
+    t: &mut [u8; 65536],
+    d: Done,
+    a: FloatRead,
+    from: i64,
+) -> Done {
+    let micros = clock::since(rt, from);
+    let n = answer::float(rt, t, d.at, a);
     let broker = d.broker;
-    ended(t, n, broker, micros)
+    ended(rt, t, n, broker, micros)
 }
 
 // A call that writes to the log; the others change nothing here.
+#[inline(never)]
 pub fn writing_call(
+    rt: &(impl Print + Eprint + CpuClock),
     t: &mut [u8; 65536],
     at: usize,
     b: UistBroker,
@@ -152,30 +189,37 @@ pub fn writing_call(
     log: &mut [Trade],
 ) -> Done {
     if is_check(j) {
-        let y = arrays::check_on(b, lists_in(j), log);
-        return check_done(t, at, y);
+        let y = arrays::check_on(rt, b, lists_in(j), log);
+        return check_done(rt, t, at, y);
     }
     if is_update(j) {
-        let y = arrays::update_on(b, lists_in(j), log);
-        return update_done(t, at, y);
+        let y = arrays::update_on(rt, b, lists_in(j), log);
+        return update_done(rt, t, at, y);
     }
     unchanged(b, at)
 }
 
 // A call that reads the log; the others change nothing here.
-pub fn reading_call(t: &mut [u8; 65536], d: Done, j: Job, log: &[Trade]) -> Done {
-    let from = clock::now();
+#[inline(never)]
+pub fn reading_call(
+    rt: &(impl Print + Eprint + CpuClock),
+    t: &mut [u8; 65536],
+    d: Done,
+    j: Job,
+    log: &[Trade],
+) -> Done {
+    let from = clock::now(rt);
     if is_new(j) {
         let y = arrays::build_on(costs_in(j), lot_in(j), lists_in(j), log);
-        return build_done(t, d, y, from);
+        return build_done(rt, t, d, y, from);
     }
     if is_basis(j) {
         let y = uist::cost_basis(broker_in(d), log, symbol_in(j));
-        return basis_done(t, d, y, from);
+        return basis_done(rt, t, d, y, from);
     }
     if is_turnover(j) {
         let y = uist::turnover(broker_in(d), log);
-        return turnover_done(t, d, y, from);
+        return turnover_done(rt, t, d, y, from);
     }
     d
 }

@@ -6,7 +6,7 @@ use calls::verb::Verb;
 use report::answer::Reply;
 
 // The broker after a call, and what it answers.
-#[derive(Drop)]
+#[derive(Clone, Copy)]
 pub struct Changed {
     pub broker: UistBroker,
     pub reply: Reply,

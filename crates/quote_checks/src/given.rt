@@ -1,17 +1,18 @@
 // Inputs that are too long for a record, and tables that no text gives.
 use crate::answers::{print_read, print_written};
 use market::quote::Quote;
+use std::io;
 
 // 20 is drawn above 65,536 bytes, and 15 comes before it.
-pub fn print_long_inputs() {
+pub fn print_long_inputs(rt: &impl Print) -> io::Result<()> {
     let long: [u8; 65537] = [b'0'; 65537];
-    print_read(&long, 256, 15104);
-    print_read(&long[..65536], 256, 15104);
-    print_read(&long, 255, 15104);
+    print_read(rt, &long, 256, 15104)?;
+    print_read(rt, &long[..65536], 256, 15104)?;
+    print_read(rt, &long, 255, 15104)
 }
 
 // The number of two rows, and 15, which comes before it, where the buffer is short.
-fn print_two_rows(symbol: u32, bid: f64) {
+fn print_two_rows(rt: &impl Print, symbol: u32, bid: f64) -> io::Result<()> {
     let first = Quote {
         symbol: 7,
         bid: 1.0,
@@ -21,13 +22,13 @@ fn print_two_rows(symbol: u32, bid: f64) {
     let mut rows = [first; 257];
     rows[1].symbol = symbol;
     rows[1].bid = bid;
-    print_written(rows, 2, 15104);
-    print_written(rows, 2, 15103);
+    print_written(rt, rows, 2, 15104)?;
+    print_written(rt, rows, 2, 15103)
 }
 
 // Rows that do not ascend, a symbol of 256, a bid of zero.
-pub fn print_refused_rows() {
-    print_two_rows(7, 1.0);
-    print_two_rows(256, 1.0);
-    print_two_rows(8, 0.0);
+pub fn print_refused_rows(rt: &impl Print) -> io::Result<()> {
+    print_two_rows(rt, 7, 1.0)?;
+    print_two_rows(rt, 256, 1.0)?;
+    print_two_rows(rt, 8, 0.0)
 }

@@ -9,15 +9,20 @@
 // of all 257 rows are not blank. Where the number is 0 the rows are written. A writer's answer is a
 // line NUMBER BYTES LEFT, and the bytes written: LEFT is how many bytes of the lent buffer past
 // those are as they were. Last come the answers for long inputs, and for rows that were not read.
+#![tactic(auto)]
+
 mod answers;
 mod given;
 mod records;
 
+use std::io;
+use std::io::Read;
+
 // Input past 65,536 bytes is not read.
-fn main() {
-    let mut input: [u8; 65536] = [0; 65536];
-    let n = io::read_full(0, &mut input);
-    records::print_records(&input[..n]);
-    given::print_long_inputs();
-    given::print_refused_rows();
+fn main(rt: HostRuntime) -> io::Result<()> {
+    let mut input = Vec::new(rt.alloc());
+    rt.stdin().take(65536).read_to_end(&mut input)?;
+    records::print_records(&rt, &input)?;
+    given::print_long_inputs(&rt)?;
+    given::print_refused_rows(&rt)
 }

@@ -6,7 +6,6 @@ use mathlib.Core.Path.{◌≡◌, refl, sym, ◌∙◌, ap, ap₂}
 use mathlib.Core.List.{List, [], ◌∷◌}
 use lib.ListN.{length, take, drop, set, get_or, replicate, length-append, length-take}
 use lib.Seq.{length-take-le, take-suc}
-use Rattle.io.specs.Counts.{IsPrefixLen}
 use Rattle.lists.specs.Lists.{over}
 use Rattle.lists.proofs.Over.{length_over, take-over, over-more}
 use Rattle.market.specs.Faults.{unless_drawn}
@@ -70,7 +69,7 @@ line-put n x l out is room put = (
 -- ---- what is answered
 
 -- r counts the bytes that were put
-pub counts-put : (k l after : List ℕ) (r : ℕ) → r ≡ length k → after ≡ over k l → IsPrefixLen r after × (take r after ≡ k)
+pub counts-put : (k l after : List ℕ) (r : ℕ) → r ≡ length k → after ≡ over k l → ((r ≤ length after) × (r ≡ length (take r after))) × (take r after ≡ k)
 counts-put k l after r count is =
     let taken : take r after ≡ k = ap (take r) is ∙ take-over k l r (sym count) in
     ((omega (arith, count, ap length is, length-append k (drop (length k) l)), count ∙ ap length (sym taken)), taken)
@@ -91,7 +90,7 @@ same-printed s none = sym (prints-rows s (omega (arith, none))) ∙ one-text 256
 
 -- the rows that are read are written whole
 pub rows-printed : (s : List ℕ) (x : TableRead) (out after : List ℕ) (y : Written) → x ≡ read_on s 256 → length out ≡ 15104 → x.answer.fault ≤ 0 →
-    AnswersWrite (take (min x.answer.rows 257) x.rows) out y after → IsPrefixLen y.bytes after × (take y.bytes after ≡ printed_of s)
+    AnswersWrite (take (min x.answer.rows 257) x.rows) out y after → ((y.bytes ≤ length after) × (y.bytes ≡ length (take y.bytes after))) × (take y.bytes after ≡ printed_of s)
 rows-printed s x out after y is long none done =
     let k = rows_read 256 s in
     let few : min (length k) 257 ≡ length k = omega (arith, rows_fit 256 s) in
@@ -102,7 +101,7 @@ rows-printed s x out after y is long none done =
     (put.0, put.1 ∙ prints-rows s (omega (arith, none, ap (λ (z : TableRead). z.answer.fault) is)))
 
 pub number-printed : (s : List ℕ) (x : TableRead) (out after : List ℕ) (n r : ℕ) → x ≡ read_on s 256 → n ≡ x.answer.fault → 0 < n →
-    (r ≡ length (number_line n)) × (after ≡ over (number_line n) out) → IsPrefixLen r after × (take r after ≡ printed_of s)
+    (r ≡ length (number_line n)) × (after ≡ over (number_line n) out) → ((r ≤ length after) × (r ≡ length (take r after))) × (take r after ≡ printed_of s)
 number-printed s x out after n r is drawn some put =
     let all = counts-put (number_line n) out after r put.0 put.1 in
     (all.0, all.1 ∙ prints-number s n (drawn ∙ ap (λ (z : TableRead). z.answer.fault) is) some)

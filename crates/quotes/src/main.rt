@@ -1,11 +1,14 @@
 // Reads quote lines on standard input, and writes the text of the table that they are, or the number
 // that they draw.
-ghost use Rattle.std.specs.Prelude.{◌<◌, ◌≡◌, length, take};
-ghost use Rattle.io.specs.Counts.{IsPrefixLen};
+#![tactic(auto)]
+
+ghost use Rattle.std.specs.Prelude.{◌<◌, ◌≡◌, ◌≤◌, length, take};
 ghost use Rattle.lists.specs.Lists.{over};
 ghost use Rattle.quotes.specs.Printed.{number_line, printed_of};
 
 use numerals::spelled::decimal_text;
+use std::io;
+use std::io::Read;
 use vendor::on_arrays::{read_on, write_on};
 
 // Puts a number on a line at the start of `out`, and answers how many bytes that is.
@@ -29,7 +32,7 @@ fn put_number(n: u64, out: &mut [u8]) -> usize
 // Puts what is written for an input at the start of `out`, and answers how many bytes that is.
 fn printed(input: &[u8], out: &mut [u8]) -> usize
     requires { length out.old ≡ 15104 }
-    ensures prefix_len { IsPrefixLen result out.new }
+    ensures prefix_len { (result ≤ length out.new) × (result ≡ length (take result out.new)) }
     ensures out_after { take result out.new ≡ printed_of input.now }
 {
     let x = read_on(input, 256);
@@ -42,11 +45,27 @@ fn printed(input: &[u8], out: &mut [u8]) -> usize
     y.bytes
 }
 
-fn main() {
+// Reads until `buf` is full or the input ends, and answers how many bytes came. A read that fails
+// counts as the end.
+fn read_full(reader: &mut impl Read, buf: &mut [u8]) -> usize
+    ensures { result ≤ length buf.new }
+{
+    let mut done = 0;
+    while done < buf.len() {
+        let n = reader.read(&mut buf[done..]).unwrap_or(0);
+        if n == 0 {
+            break;
+        }
+        done += n;
+    }
+    done
+}
+
+fn main(rt: HostRuntime) -> io::Result<()> {
     // One byte more than an input may have, so that a longer one is told.
     let mut input: [u8; 65537] = [0; 65537];
-    let n = io::read_full(0, &mut input);
+    let n = read_full(&mut rt.stdin(), &mut input);
     let mut out: [u8; 15104] = [0; 15104];
     let k = printed(&input[..n], &mut out);
-    io::write_all(1, &out[..k]);
+    Print::write_all(&rt, &out[..k])
 }

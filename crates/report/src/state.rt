@@ -9,112 +9,142 @@ use portfolio::value::Amount;
 use text::out;
 
 // A title, and a float or `refused` and the number.
-fn put_read(t: &mut [u8; 65536], at: usize, title: &[u8], x: FloatRead) -> usize {
-    let n = out::put(t, at, title);
+fn put_read(
+    rt: &(impl Print + Eprint),
+    t: &mut [u8; 65536],
+    at: usize,
+    title: &[u8],
+    x: FloatRead,
+) -> usize {
+    let n = out::put(rt, t, at, title);
     if x.fault == 0 {
-        return out::put_float_word(t, n, x.value);
+        return out::put_float_word(rt, t, n, x.value);
     }
-    out::put_refused(t, n, x.fault)
+    out::put_refused(rt, t, n, x.fault)
 }
 
-fn put_state(t: &mut [u8; 65536], at: usize, s: BrokerState) -> usize {
+fn put_state(rt: &(impl Print + Eprint), t: &mut [u8; 65536], at: usize, s: BrokerState) -> usize {
     match s {
-        BrokerState::Ready => out::put(t, at, b" state Ready"),
-        BrokerState::Failed => out::put(t, at, b" state Failed"),
+        BrokerState::Ready => out::put(rt, t, at, b" state Ready"),
+        BrokerState::Failed => out::put(rt, t, at, b" state Failed"),
     }
 }
 
-fn money(t: &mut [u8; 65536], at: usize, b: UistBroker, turnover: FloatRead) -> usize {
-    let mut n = put_read(t, at, b" cash", b.get_cash_balance());
+fn money(
+    rt: &(impl Print + Eprint),
+    t: &mut [u8; 65536],
+    at: usize,
+    b: UistBroker,
+    turnover: FloatRead,
+) -> usize {
+    let mut n = put_read(rt, t, at, b" cash", b.get_cash_balance());
     let s = b.get_broker_state();
     let state = s.state;
-    n = put_state(t, n, state);
-    n = put_read(t, n, b" total", b.get_total_value());
-    n = put_read(t, n, b" liquidation", b.get_liquidation_value());
-    n = put_read(t, n, b" turnover", turnover);
-    out::put(t, n, b"\n")
+    n = put_state(rt, t, n, state);
+    n = put_read(rt, t, n, b" total", b.get_total_value());
+    n = put_read(rt, t, n, b" liquidation", b.get_liquidation_value());
+    n = put_read(rt, t, n, b" turnover", turnover);
+    out::put(rt, t, n, b"\n")
 }
 
-fn held(t: &mut [u8; 65536], at: usize, funds: Funds) -> usize {
-    let mut n = out::put(t, at, b" held");
+fn held(rt: &(impl Print + Eprint), t: &mut [u8; 65536], at: usize, funds: Funds) -> usize {
+    let mut n = out::put(rt, t, at, b" held");
     let mut i: usize = 0;
     while i < 256 {
         if funds.holding[i] != 0.0 {
-            n = out::put_entry(t, n, i as u64, funds.holding[i]);
+            n = out::put_entry(rt, t, n, i as u64, funds.holding[i]);
         }
         i = i + 1;
     }
-    out::put(t, n, b"\n")
+    out::put(rt, t, n, b"\n")
 }
 
-fn pending(t: &mut [u8; 65536], at: usize, funds: Funds) -> usize {
-    let mut n = out::put(t, at, b" pending");
+fn pending(rt: &(impl Print + Eprint), t: &mut [u8; 65536], at: usize, funds: Funds) -> usize {
+    let mut n = out::put(rt, t, at, b" pending");
     let mut i: usize = 0;
     while i < 256 {
         if funds.awaited[i] {
-            n = out::put_entry(t, n, i as u64, funds.pending[i]);
+            n = out::put_entry(rt, t, n, i as u64, funds.pending[i]);
         }
         i = i + 1;
     }
-    out::put(t, n, b"\n")
+    out::put(rt, t, n, b"\n")
 }
 
-fn latest(t: &mut [u8; 65536], at: usize, quotes: Table) -> usize {
-    let mut n = out::put(t, at, b" latest");
+fn latest(rt: &(impl Print + Eprint), t: &mut [u8; 65536], at: usize, quotes: Table) -> usize {
+    let mut n = out::put(rt, t, at, b" latest");
     let mut i: usize = 0;
     while i < 256 {
         if quotes.present[i] {
             let q = quotes.rows[i];
-            n = out::put_quote_word(t, n, q);
+            n = out::put_quote_word(rt, t, n, q);
         }
         i = i + 1;
     }
-    out::put(t, n, b"\n")
+    out::put(rt, t, n, b"\n")
 }
 
 // The lines of money, holdings, pending quantities and latest quotes, and the head of the bases' line.
-pub fn first_lines(t: &mut [u8; 65536], at: usize, b: UistBroker, turnover: FloatRead) -> usize {
+pub fn first_lines(
+    rt: &(impl Print + Eprint),
+    t: &mut [u8; 65536],
+    at: usize,
+    b: UistBroker,
+    turnover: FloatRead,
+) -> usize {
     let p = b.portfolio;
     let funds = p.funds;
-    let mut n = money(t, at, b, turnover);
-    n = held(t, n, funds);
-    n = pending(t, n, funds);
+    let mut n = money(rt, t, at, b, turnover);
+    n = held(rt, t, n, funds);
+    n = pending(rt, t, n, funds);
     let quotes = p.latest;
-    n = latest(t, n, quotes);
-    out::put(t, n, b" basis")
+    n = latest(rt, t, n, quotes);
+    out::put(rt, t, n, b" basis")
 }
 
-fn put_basis(t: &mut [u8; 65536], at: usize, a: Amount) -> usize {
+fn put_basis(rt: &(impl Print + Eprint), t: &mut [u8; 65536], at: usize, a: Amount) -> usize {
     match a {
-        Amount::Of(x) => out::put_float(t, at, x),
-        Amount::Missing => out::put(t, at, b"none"),
+        Amount::Of(x) => out::put_float(rt, t, at, x),
+        Amount::Missing => out::put(rt, t, at, b"none"),
     }
 }
 
-pub fn basis(t: &mut [u8; 65536], at: usize, symbol: u32, x: AmountRead) -> usize {
-    let mut n = out::put_whole_word(t, at, symbol as u64);
-    n = out::put(t, n, b":");
+pub fn basis(
+    rt: &(impl Print + Eprint),
+    t: &mut [u8; 65536],
+    at: usize,
+    symbol: u32,
+    x: AmountRead,
+) -> usize {
+    let mut n = out::put_whole_word(rt, t, at, symbol as u64);
+    n = out::put(rt, t, n, b":");
     let a = x.amount;
-    put_basis(t, n, a)
+    put_basis(rt, t, n, a)
 }
 
 // The end of the bases' line, and the head of the trades': how many were logged.
-pub fn trades_head(t: &mut [u8; 65536], at: usize, b: UistBroker, turnover: FloatRead) -> usize {
+pub fn trades_head(
+    rt: &(impl Print + Eprint),
+    t: &mut [u8; 65536],
+    at: usize,
+    b: UistBroker,
+    turnover: FloatRead,
+) -> usize {
     let mut n = at;
     if turnover.fault != 0 {
-        n = out::put_refused(t, n, turnover.fault);
+        n = out::put_refused(rt, t, n, turnover.fault);
     }
-    n = out::put(t, n, b"\n trades");
+    n = out::put(rt, t, n, b"\n trades");
     let logged = b.executed_trade_count();
-    out::put_whole_word(t, n, logged.count)
+    out::put_whole_word(rt, t, n, logged.count)
 }
 
-pub fn one_trade(t: &mut [u8; 65536], at: usize, x: Trade) -> usize {
-    out::put_trade(t, at, x)
+pub fn one_trade(rt: &(impl Print + Eprint), t: &mut [u8; 65536], at: usize, x: Trade) -> usize {
+    out::put_trade(rt, t, at, x)
 }
 
-fn waiting(t: &mut [u8; 65536], at: usize, e: UistV1) -> usize {
-    let mut n = out::put(t, at, b"\n waiting");
+fn waiting(rt: &(impl Print + Eprint), t: &mut [u8; 65536], at: usize, e: UistV1) -> usize {
+    let mut n = out::put(rt, t, at, b"\n waiting");
     let c = e.counts;
     let mut i: usize = 0;
     while i < 1024 {
@@ -122,7 +152,7 @@ fn waiting(t: &mut [u8; 65536], at: usize, e: UistV1) -> usize {
             if i - c.resting < c.waits {
                 let x = e.book[i];
                 let o = x.order;
-                n = out::put_order_word(t, n, o);
+                n = out::put_order_word(rt, t, n, o);
             }
         }
         i = i + 1;
@@ -130,8 +160,8 @@ fn waiting(t: &mut [u8; 65536], at: usize, e: UistV1) -> usize {
     n
 }
 
-fn resting(t: &mut [u8; 65536], at: usize, e: UistV1) -> usize {
-    let mut n = out::put(t, at, b"\n resting");
+fn resting(rt: &(impl Print + Eprint), t: &mut [u8; 65536], at: usize, e: UistV1) -> usize {
+    let mut n = out::put(rt, t, at, b"\n resting");
     let c = e.counts;
     let mut i: usize = 0;
     while i < 1024 {
@@ -140,23 +170,28 @@ fn resting(t: &mut [u8; 65536], at: usize, e: UistV1) -> usize {
         }
         let x = e.book[i];
         let o = x.order;
-        n = out::put_whole_word(t, n, x.id);
-        n = out::put(t, n, b":");
-        n = out::put_order(t, n, o);
+        n = out::put_whole_word(rt, t, n, x.id);
+        n = out::put(rt, t, n, b":");
+        n = out::put_order(rt, t, n, o);
         i = i + 1;
     }
-    out::put(t, n, b"\n")
+    out::put(rt, t, n, b"\n")
 }
 
 // The end of the trades' line, and the lines of the book.
-pub fn last_lines(t: &mut [u8; 65536], at: usize, b: UistBroker) -> usize {
+pub fn last_lines(
+    rt: &(impl Print + Eprint),
+    t: &mut [u8; 65536],
+    at: usize,
+    b: UistBroker,
+) -> usize {
     let e = b.exchange;
-    let n = waiting(t, at, e);
-    resting(t, n, e)
+    let n = waiting(rt, t, at, e);
+    resting(rt, t, n, e)
 }
 
 // No broker was built.
-pub fn no_broker(t: &mut [u8; 65536], at: usize) -> usize {
-    let n = out::put_refused(t, at, 16);
-    out::put(t, n, b"\n")
+pub fn no_broker(rt: &(impl Print + Eprint), t: &mut [u8; 65536], at: usize) -> usize {
+    let n = out::put_refused(rt, t, at, 16);
+    out::put(rt, t, n, b"\n")
 }

@@ -1,5 +1,7 @@
 // Scenarios: a run takes one line after the other, makes its call and shows what the broker holds.
 // docs/SCENARIOS.md has the form.
+#![tactic(auto)]
+
 pub mod plain_lines;
 pub mod run;
 pub mod show;

@@ -11,6 +11,8 @@ use dispatch::line_lists::Job;
 use dispatch::list_calls::Done;
 use dispatch::{line_lists, log_calls};
 use market::trade::Trade;
+use std::io;
+use std::time::CpuClock;
 use text::out;
 
 pub(crate) fn started() -> Run {
@@ -70,38 +72,48 @@ pub(crate) fn is_over(r: Run) -> bool {
 }
 
 // A line that the log is lent to, or after which what the broker holds is shown.
-fn run_logged(t: &mut [u8; 65536], r: Run, log: &mut [Trade]) -> Run {
+fn run_logged(
+    rt: &(impl Print + Eprint + CpuClock),
+    t: &mut [u8; 65536],
+    r: Run,
+    log: &mut [Trade],
+) -> Run {
     let j = job_at(r);
     let c = call_at(r);
     let v = view_before(r);
     let n = arrays::at_most(view::rows(v), log.len());
-    let d = log_calls::writing_call(t, put_at(r), broker_at(r), j, &mut log[..n]);
-    let e = log_calls::reading_call(t, d, j, &log[..n]);
+    let d = log_calls::writing_call(rt, t, put_at(r), broker_at(r), j, &mut log[..n]);
+    let e = log_calls::reading_call(rt, t, d, j, &log[..n]);
     let b = log_calls::broker_in(e);
     let w = view::after(v, c, e);
-    let s = show::show_state(t, done_at(e), w, b, c, &log[..n]);
+    let s = show::show_state(rt, t, done_at(e), w, b, c, &log[..n]);
     stands(r, b, s)
 }
 
-pub(crate) fn finish(t: &mut [u8; 65536], r: Run) {
+pub(crate) fn finish(rt: &(impl Print + Eprint), t: &mut [u8; 65536], r: Run) {
     let at = put_at(r);
-    out::flush(t, at);
+    out::flush(rt, t, at);
 }
 
 // Runs the scenario on standard input, with a log of at most so many rows. A proved loop has to end,
 // so it counts its turns down, from a number that no input uses up.
-fn run_lines(bytes: &mut [u8; 65536], t: &mut [u8; 65536], log: &mut [Trade]) {
+fn run_lines(
+    rt: &(impl io::Input + Print + Eprint + CpuClock),
+    bytes: &mut [u8; 65536],
+    t: &mut [u8; 65536],
+    log: &mut [Trade],
+) {
     let mut r = started();
     let mut turns = stand::all_turns();
     while turns > 0 {
-        r = plain_lines::run_plain(bytes, t, r, log.len());
+        r = plain_lines::run_plain(rt, bytes, t, r, log.len());
         if is_over(r) {
             break;
         }
-        r = run_logged(t, r, log);
+        r = run_logged(rt, t, r, log);
         turns = turns - 1;
     }
-    finish(t, r);
+    finish(rt, t, r);
 }
 
 pub(crate) fn small_log() -> [Trade; 65536] {
@@ -115,17 +127,21 @@ pub(crate) fn small_rows() -> usize
     65536
 }
 
-fn run_small(bytes: &mut [u8; 65536], t: &mut [u8; 65536]) {
+fn run_small(
+    rt: &(impl io::Input + Print + Eprint + CpuClock),
+    bytes: &mut [u8; 65536],
+    t: &mut [u8; 65536],
+) {
     let mut log = small_log();
     let n = small_rows();
-    run_lines(bytes, t, &mut log[..n]);
+    run_lines(rt, bytes, t, &mut log[..n]);
 }
 
 // A run whose log has at most 65,536 rows.
-pub fn with_small_log() {
-    let mut bytes = io::large_buffer();
-    let mut t = io::large_buffer();
-    run_small(&mut bytes, &mut t);
+pub fn with_small_log(rt: &(impl io::Input + Print + Eprint + CpuClock)) {
+    let mut bytes = [0; 65536];
+    let mut t = [0; 65536];
+    run_small(rt, &mut bytes, &mut t);
 }
 
 pub(crate) fn large_log() -> [Trade; 1048576] {
@@ -139,15 +155,19 @@ pub(crate) fn large_rows() -> usize
     1048576
 }
 
-fn run_large(bytes: &mut [u8; 65536], t: &mut [u8; 65536]) {
+fn run_large(
+    rt: &(impl io::Input + Print + Eprint + CpuClock),
+    bytes: &mut [u8; 65536],
+    t: &mut [u8; 65536],
+) {
     let mut log = large_log();
     let n = large_rows();
-    run_lines(bytes, t, &mut log[..n]);
+    run_lines(rt, bytes, t, &mut log[..n]);
 }
 
 // A run whose log has at most 1,048,576 rows.
-pub fn with_large_log() {
-    let mut bytes = io::large_buffer();
-    let mut t = io::large_buffer();
-    run_large(&mut bytes, &mut t);
+pub fn with_large_log(rt: &(impl io::Input + Print + Eprint + CpuClock)) {
+    let mut bytes = [0; 65536];
+    let mut t = [0; 65536];
+    run_large(rt, &mut bytes, &mut t);
 }

@@ -23,34 +23,48 @@ fn note_trades(v: View, log: &[Trade], from: usize, to: usize) -> View
     w
 }
 
-fn show_trades(t: &mut [u8; 65536], at: usize, log: &[Trade], from: usize, to: usize) -> usize
+fn show_trades(
+    rt: &(impl Print + Eprint),
+    t: &mut [u8; 65536],
+    at: usize,
+    log: &[Trade],
+    from: usize,
+    to: usize,
+) -> usize
     requires { to ≤ length log.now }
 {
     let mut n = at;
     let mut i = from;
     while i < to {
         let x = log[i];
-        n = state::one_trade(t, n, x);
+        n = state::one_trade(rt, t, n, x);
         i = i + 1;
     }
     n
 }
 
-fn show_bases(t: &mut [u8; 65536], at: usize, b: UistBroker, log: &[Trade], s: Symbols) -> usize {
+fn show_bases(
+    rt: &(impl Print + Eprint),
+    t: &mut [u8; 65536],
+    at: usize,
+    b: UistBroker,
+    log: &[Trade],
+    s: Symbols,
+) -> usize {
     let count = view::symbol_count(s);
     let mut n = at;
     let mut i = 0;
     while i < count {
         let symbol = view::symbol_at(s, i);
         let x = uist::cost_basis(b, log, symbol);
-        n = state::basis(t, n, symbol, x);
+        n = state::basis(rt, t, n, symbol, x);
         i = i + 1;
     }
     n
 }
 
 // What is kept once what the broker holds is shown, and how many bytes stand in the buffer then.
-#[derive(Drop)]
+#[derive(Clone, Copy)]
 pub struct Shown {
     pub view: View,
     pub at: usize,
@@ -61,7 +75,9 @@ pub(crate) fn left_at(v: View, at: usize) -> Shown {
 }
 
 // Shows what the broker holds, where this line asks for it.
+#[inline(never)]
 pub(crate) fn show_state(
+    rt: &(impl Print + Eprint),
     t: &mut [u8; 65536],
     at: usize,
     v: View,
@@ -73,17 +89,17 @@ pub(crate) fn show_state(
         return left_at(v, at);
     }
     if view::is_broken(b) {
-        let n = state::no_broker(t, at);
+        let n = state::no_broker(rt, t, at);
         return left_at(v, n);
     }
     let turnover = uist::turnover(b, log);
     let from = view::first_row(v);
     let to = view::last_row(b, turnover, log.len());
     let w = note_trades(v, log, from, to);
-    let mut n = state::first_lines(t, at, b, turnover);
-    n = show_bases(t, n, b, log, view::traded_symbols(w, turnover));
-    n = state::trades_head(t, n, b, turnover);
-    n = show_trades(t, n, log, from, to);
-    n = state::last_lines(t, n, b);
+    let mut n = state::first_lines(rt, t, at, b, turnover);
+    n = show_bases(rt, t, n, b, log, view::traded_symbols(w, turnover));
+    n = state::trades_head(rt, t, n, b, turnover);
+    n = show_trades(rt, t, n, log, from, to);
+    n = state::last_lines(rt, t, n, b);
     left_at(view::shown(w, to), n)
 }

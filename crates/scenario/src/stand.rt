@@ -8,12 +8,14 @@ use calls::verb::Verb;
 use dispatch::log_calls;
 use report::answer;
 use report::answer::Reply;
+use std::io;
+use std::time::CpuClock;
 use text::input::Input;
 use text::{input, out};
 
 // What is kept, the input, the call of the line that was found last, when it was found, and how many
 // bytes stand in the output's buffer.
-#[derive(Drop)]
+#[derive(Clone, Copy)]
 pub struct Stand {
     pub view: View,
     pub input: Input,
@@ -47,13 +49,18 @@ pub(crate) fn is_over(s: Stand) -> bool {
 }
 
 // The next line, or none: what was answered is written before more is read.
-fn read_on(bytes: &mut [u8; 65536], t: &mut [u8; 65536], s: Stand) -> Stand {
+fn read_on(
+    rt: &(impl io::Input + Print + Eprint),
+    bytes: &mut [u8; 65536],
+    t: &mut [u8; 65536],
+    s: Stand,
+) -> Stand {
     let mut y = s;
     let x = input::next(bytes, s.input);
     y.input = x;
     if input::is_short(x) {
-        y.at = out::flush(t, s.at);
-        y.input = input::refilled(bytes, x);
+        y.at = out::flush(rt, t, s.at);
+        y.input = input::refilled(rt, bytes, x);
     }
     y
 }
@@ -68,6 +75,7 @@ fn is_blank(c: Call) -> bool {
 
 // The next line that is not passed over, with the head of its answer.
 pub(crate) fn next_line(
+    rt: &(impl io::Input + Print + Eprint + CpuClock),
     bytes: &mut [u8; 65536],
     t: &mut [u8; 65536],
     s: Stand,
@@ -77,15 +85,15 @@ pub(crate) fn next_line(
     let mut turns = all_turns();
     while turns > 0 {
         turns = turns - 1;
-        y = read_on(bytes, t, y);
+        y = read_on(rt, bytes, t, y);
         let c = input::call_in(bytes, y.input, rows);
         y.call = c;
         if is_over(y) {
             break;
         }
         if !is_blank(c) {
-            y.at = input::put_head(t, y.at, bytes, y.input, c);
-            y.from = clock::now();
+            y.at = input::put_head(rt, t, y.at, bytes, y.input, c);
+            y.from = clock::now(rt);
             break;
         }
     }
@@ -99,34 +107,57 @@ pub(crate) fn stops(s: Stand) -> bool {
 
 // A call was made in so many microseconds and answered, and `at` bytes stand in the buffer; the line
 // ends.
-pub(crate) fn counted(t: &mut [u8; 65536], s: Stand, micros: u64, at: usize) -> Stand {
+pub(crate) fn counted(
+    rt: &(impl Print + Eprint),
+    t: &mut [u8; 65536],
+    s: Stand,
+    micros: u64,
+    at: usize,
+) -> Stand {
     let mut y = s;
     y.view = view::counted(s.view, micros);
-    y.at = out::put(t, at, b"\n");
+    y.at = out::put(rt, t, at, b"\n");
     y
 }
 
 // A call was made, and is answered.
-pub(crate) fn replied(t: &mut [u8; 65536], s: Stand, reply: Reply) -> Stand {
-    let micros = clock::since(s.from);
-    let n = answer::put(t, s.at, reply);
-    counted(t, s, micros, n)
+pub(crate) fn replied(
+    rt: &(impl Print + Eprint + CpuClock),
+    t: &mut [u8; 65536],
+    s: Stand,
+    reply: Reply,
+) -> Stand {
+    let micros = clock::since(rt, s.from);
+    let n = answer::put(rt, t, s.at, reply);
+    counted(rt, t, s, micros, n)
 }
 
-fn put_setting(bytes: &[u8], t: &mut [u8; 65536], s: Stand, rows: usize) -> usize {
+fn put_setting(
+    rt: &(impl Print + Eprint),
+    bytes: &[u8],
+    t: &mut [u8; 65536],
+    s: Stand,
+    rows: usize,
+) -> usize {
     let c = s.call;
     let verb = c.verb;
     match verb {
-        Verb::Malformed => answer::reason(t, s.at, input::reason_in(bytes, s.input, rows)),
-        _ => view::put_setting(t, s.at, s.view, c),
+        Verb::Malformed => answer::reason(rt, t, s.at, input::reason_in(bytes, s.input, rows)),
+        _ => view::put_setting(rt, t, s.at, s.view, c),
     }
 }
 
 // A line that makes no call is answered.
-pub(crate) fn set(bytes: &[u8], t: &mut [u8; 65536], s: Stand, rows: usize) -> Stand {
+pub(crate) fn set(
+    rt: &(impl Print + Eprint),
+    bytes: &[u8],
+    t: &mut [u8; 65536],
+    s: Stand,
+    rows: usize,
+) -> Stand {
     let mut y = s;
-    let n = put_setting(bytes, t, s, rows);
-    y.at = out::put(t, n, b"\n");
+    let n = put_setting(rt, bytes, t, s, rows);
+    y.at = out::put(rt, t, n, b"\n");
     y.view = view::set(s.view, s.call);
     y
 }

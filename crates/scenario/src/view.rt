@@ -15,7 +15,7 @@ use text::out;
 
 // `rows` of the log are lent; the first `shown` trades were shown, and `traded` says which symbols
 // they are of; `calls` were made since the last `clock`, in `micros`.
-#[derive(Drop)]
+#[derive(Clone, Copy)]
 pub struct View {
     pub rows: usize,
     pub quiet: bool,
@@ -26,7 +26,7 @@ pub struct View {
 }
 
 // The symbols that have traded, ascending: the first `count`.
-#[derive(Drop)]
+#[derive(Clone, Copy)]
 pub struct Symbols {
     pub list: [u32; 256],
     pub count: usize,
@@ -108,14 +108,20 @@ pub(crate) fn after(v: View, c: Call, d: Done) -> View {
 }
 
 // The answer of a line that makes no call.
-pub(crate) fn put_setting(t: &mut [u8; 65536], at: usize, v: View, c: Call) -> usize {
+pub(crate) fn put_setting(
+    rt: &(impl Print + Eprint),
+    t: &mut [u8; 65536],
+    at: usize,
+    v: View,
+    c: Call,
+) -> usize {
     let verb = c.verb;
     match verb {
-        Verb::Lend => out::put(t, at, b" lent"),
-        Verb::State => out::put(t, at, b" shown"),
-        Verb::Quiet => out::put(t, at, b" quiet"),
-        Verb::Full => out::put(t, at, b" full"),
-        Verb::Clock => answer::wholes(t, at, v.calls, v.micros),
+        Verb::Lend => out::put(rt, t, at, b" lent"),
+        Verb::State => out::put(rt, t, at, b" shown"),
+        Verb::Quiet => out::put(rt, t, at, b" quiet"),
+        Verb::Full => out::put(rt, t, at, b" full"),
+        Verb::Clock => answer::wholes(rt, t, at, v.calls, v.micros),
         _ => at,
     }
 }

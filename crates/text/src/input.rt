@@ -6,13 +6,15 @@ use calls::call;
 use calls::call::Call;
 use calls::verb::Verb;
 use reasons::Reason;
+use std::io;
+use std::io::Read;
 use words::word;
 use words::word::Word;
 
 // The bytes read so far are the first `filled`. Where there is a line (`found`), it is from `start`
 // to before `end`, and `line` is its number; the bytes from `next` on are of later lines. A line that
 // does not fit is `long`; while its end is looked for, `skips`.
-#[derive(Drop)]
+#[derive(Clone, Copy)]
 pub struct Input {
     pub filled: usize,
     pub start: usize,
@@ -115,27 +117,32 @@ fn move_down(bytes: &mut [u8], from: usize, filled: usize) {
 }
 
 // How many bytes came, and whether the read failed.
-#[derive(Drop)]
+#[derive(Clone, Copy)]
 struct Got {
     count: usize,
     failed: bool,
 }
 
 // Reads behind the first `filled` bytes. A read that fails is told on standard error.
-fn read_more(bytes: &mut [u8], filled: usize) -> Got {
+fn read_more(rt: &(impl io::Input + Eprint), bytes: &mut [u8], filled: usize) -> Got {
     if filled > bytes.len() {
         return Got {
             count: 0,
             failed: false,
         };
     }
-    let got = libc::read(0, &mut bytes[filled..]);
-    if got < 0 {
-        os::fail(b"rehearse: standard input");
-    }
-    Got {
-        count: io::count(got, &bytes[filled..]),
-        failed: got < 0,
+    match rt.reader().read(&mut bytes[filled..]) {
+        Ok(count) => Got {
+            count: count,
+            failed: false,
+        },
+        Err(why) => {
+            out::tell_failed(rt, "rehearse: standard input", why);
+            Got {
+                count: 0,
+                failed: true,
+            }
+        }
     }
 }
 
@@ -153,10 +160,10 @@ fn left(x: Input) -> usize {
 
 // Reads more, behind the bytes that are left, which go to the front. After a read that failed there
 // is no line to come.
-pub fn refilled(bytes: &mut [u8; 65536], x: Input) -> Input {
+pub fn refilled(rt: &(impl io::Input + Eprint), bytes: &mut [u8; 65536], x: Input) -> Input {
     let kept = left(x);
     move_down(bytes, x.next, x.filled);
-    let got = read_more(bytes, kept);
+    let got = read_more(rt, bytes, kept);
     let mut y = x;
     y.skips = x.skips || (x.next == 0 && x.filled == 65536);
     y.next = 0;
@@ -218,11 +225,11 @@ pub fn call_in(bytes: &[u8], x: Input, rows: usize) -> Call {
     call_of(&bytes[from..to], rows)
 }
 
-fn put_verb(out: &mut [u8; 65536], at: usize, line: &[u8]) -> usize {
+fn put_verb(rt: &(impl Print + Eprint), out: &mut [u8; 65536], at: usize, line: &[u8]) -> usize {
     let w = word::word_at(line, 0);
     let from = w.from;
     let to = w.to;
-    out::put(out, at, &line[from..to])
+    out::put(rt, out, at, &line[from..to])
 }
 
 fn is_malformed(c: Call) -> bool {
@@ -235,16 +242,23 @@ fn is_malformed(c: Call) -> bool {
 
 // Puts the head of the answer to the line that was found: its number, and its first word or
 // `malformed`.
-pub fn put_head(out: &mut [u8; 65536], at: usize, bytes: &[u8], x: Input, c: Call) -> usize {
-    let mut n = out::put_whole(out, at, x.line);
-    n = out::put(out, n, b" ");
+pub fn put_head(
+    rt: &(impl Print + Eprint),
+    out: &mut [u8; 65536],
+    at: usize,
+    bytes: &[u8],
+    x: Input,
+    c: Call,
+) -> usize {
+    let mut n = out::put_whole(rt, out, at, x.line);
+    n = out::put(rt, out, n, b" ");
     if is_malformed(c) {
-        return out::put(out, n, b"malformed");
+        return out::put(rt, out, n, b"malformed");
     }
     let w = line(x, bytes.len());
     let from = w.from;
     let to = w.to;
-    put_verb(out, n, &bytes[from..to])
+    put_verb(rt, out, n, &bytes[from..to])
 }
 
 // Why the line that was found is malformed, for a program whose log has so many rows.

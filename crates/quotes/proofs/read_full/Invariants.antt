@@ -1,0 +1,9 @@
+-- What is left to fill grows less with each turn. Assumes nothing.
+use Rattle.std.proofs.Common.{length, ◌-◌, ◌≤◌, ◌≡◌, ◌<◌, ◌^◌}
+use Rattle.quotes.proofs.read_full.Given as goal
+
+abbrev pub invariant-loop-done : goal.invariant-loop-done
+invariant-loop-done g l = (length l.buf ≡ length l.initial.buf) × (l.done ≤ length l.buf) × (length l.buf < 2 ^ 64)
+
+abbrev pub decreases-loop-done : goal.decreases-loop-done
+decreases-loop-done g l = length l.buf - l.done
