@@ -5,6 +5,6 @@
 set -eu
 cd "$(dirname "$0")/.."
 # In the background, since a shell that is interrupted waits for what it runs in front.
-tools/build.sh oracle engine & wait $!
+tools/build.sh oracle rehearse & wait $!
 [ $# -gt 0 ] || set -- 5
 exec python3 -B bench/bench.py "$@"

@@ -5,11 +5,13 @@ import os
 import resource
 import select
 import subprocess
+import sys
 import tempfile
 
 GIVEN = b"quiet\nfloor 3ff8000000000000\nfloor x\n"
 ANSWERS = b"1 quiet quiet\n2 floor 3ff0000000000000\n3 malformed 2 not a float\n"
 SMALL, LARGE = 4000, 40000
+RECORDED = os.path.join(os.path.dirname(os.path.dirname(os.path.abspath(__file__))), "crates", "rehearse")
 SECONDS = 60
 
 
@@ -62,11 +64,22 @@ def to_gone_reader(engine):
     with tempfile.TemporaryFile() as given:
         given.write(GIVEN * 100000)
         given.seek(0)
-        with subprocess.Popen([engine], stdin=given, stdout=subprocess.PIPE, stderr=subprocess.DEVNULL) as program:
+        with subprocess.Popen([engine], stdin=given, stdout=subprocess.PIPE, stderr=subprocess.PIPE) as program:
             first = program.stdout.readline()
             program.stdout.close()
-            ended = program.wait(SECONDS) is not None
-    return first, b"", 0 if ended else None
+            status = program.wait(SECONDS)
+            return first, program.stderr.read(), status
+
+
+def recorded(engine, stack):
+    """The recorded scenarios, which need more stack than a few lines do."""
+    with open(os.path.join(RECORDED, "stdin"), "rb") as given:
+        return run([engine], given=given, stack=stack)
+
+
+def recorded_answers():
+    with open(os.path.join(RECORDED, "stdout"), "rb") as answers:
+        return answers.read()
 
 
 def stack_told(limit, need):
@@ -74,15 +87,17 @@ def stack_told(limit, need):
 
 
 FULL = b"rehearse: standard output: No space left on device\n"
+GONE = b"rehearse: standard output: Broken pipe\n"
 # what is tried: how, what is written, what is told
 ENDS = {
     "a folder as the input": (from_folder, b"", b"rehearse: standard input: Is a directory\n"),
     "a disk that is full": (to_full_disk, b"", FULL),
     "`--help`, and a disk that is full": (lambda e: to_full_disk(e, "--help"), b"", FULL),
     "a line at a time over a pipe": (over_pipe, ANSWERS, b""),
-    "a reader that goes": (to_gone_reader, ANSWERS.splitlines(keepends=True)[0], b""),
+    "a reader that goes": (to_gone_reader, ANSWERS.splitlines(keepends=True)[0], GONE),
     "a stack of 4,096 KB": (lambda e: run([e], stack=4096), ANSWERS, b""),
     "a stack that is just large enough": (lambda e: run([e], stack=SMALL), ANSWERS, b""),
+    "the recorded scenarios in such a stack": (lambda e: recorded(e, SMALL), recorded_answers(), b""),
     "a stack that is too small": (lambda e: run([e], stack=2048), b"", stack_told(2048, SMALL)),
     "`large`, and a stack just large enough": (lambda e: run([e, "large"], stack=LARGE), ANSWERS, b""),
     "`large`, and a stack that is too small": (lambda e: run([e, "large"], stack=8192), b"", stack_told(8192, LARGE)),
@@ -110,3 +125,14 @@ def check(engine):
 
 def count():
     return len(ENDS) + 1
+
+
+def main():
+    """Alone, of the built program, or of the one that REHEARSE names."""
+    faults = check(os.environ.get("REHEARSE", "target/bin/rehearse"))
+    print(*faults, f"{count()} ends were tried, {len(faults)} are not as written", sep="\n")
+    return 1 if faults else 0
+
+
+if __name__ == "__main__":
+    sys.exit(main())

@@ -6,7 +6,7 @@ root=$(cd "$(dirname "$0")/.." && pwd)
 [ -z "${REHEARSE:-}" ] || set -- --engine "$REHEARSE" "$@"
 case " $* " in
 *" --engine"*) parts=oracle ;;
-*) parts="oracle recording" ;;
+*) parts="oracle rehearse" ;;
 esac
 # In the background, since a shell that is interrupted waits for what it runs in front.
 "$root/tools/build.sh" $parts & wait $!

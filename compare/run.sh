@@ -9,7 +9,7 @@ root=$(cd "$(dirname "$0")/.." && pwd)
 parts=oracle
 case " $* " in
 *" --engine"* | *" --driver "*) ;;
-*) parts="$parts engine" ;;
+*) parts="$parts rehearse" ;;
 esac
 case " $* " in
 *" --quotes"* | *" --driver "* | *" --liars "*) ;;

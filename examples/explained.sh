@@ -7,7 +7,7 @@ program=${REHEARSE:-target/bin/rehearse}
 work=target/examples
 mkdir -p "$work"
 # In the background, since a shell that is interrupted waits for what it runs in front.
-tools/build.sh engine & wait $!
+tools/build.sh rehearse & wait $!
 
 "$program" < "examples/$1.txt" > "$work/$1.answers"
 python3 -B examples/explain.py "examples/$1.txt" "$work/$1.answers"

@@ -6,7 +6,7 @@ cd "$(dirname "$0")/.."
 work=target/examples
 mkdir -p "$work"
 # In the background, since a shell that is interrupted waits for what it runs in front.
-tools/build.sh engine & wait $!
+tools/build.sh rehearse & wait $!
 export REHEARSE="${REHEARSE:-target/bin/rehearse}"
 
 echo "== two funds, ten days: examples/two-funds"

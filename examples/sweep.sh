@@ -25,7 +25,7 @@ done
 [ -n "$quotes" ] && [ -n "$plan" ] && [ -n "$folder" ] && [ $# -gt 0 ] || usage
 "$root/tools/need.sh" parallel
 # In the background, since a shell that is interrupted waits for what it runs in front.
-"$root/tools/build.sh" engine & wait $!
+"$root/tools/build.sh" rehearse & wait $!
 
 mkdir -p "$folder/sheets"
 folder=$(cd "$folder" && pwd)

@@ -3,7 +3,7 @@
 # Builds the program where it is out of date. REHEARSE names another build of it.
 set -eu
 here=$(cd "$(dirname "$0")" && pwd)
-part=engine
+part=rehearse
 case " $* " in *" -h "* | *" --help "* | *" --version "*) part= ;; esac
 # In the background, since a shell that is interrupted waits for what it runs in front.
 "$here/../tools/build.sh" $part & wait $!

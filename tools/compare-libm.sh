@@ -6,6 +6,6 @@ cd "$(dirname "$0")/.."
 tools/need.sh rt cc
 work=target/compare-libm
 mkdir -p "$work"
-rt staticlib floats_c
-cc -O2 -fno-builtin -Wall -Wextra -o "$work/compare" tools/compare-libm.c target/staticlib/libfloats_c.a -lm
+(cd crates/floats_c && rt lib)
+cc -O2 -fno-builtin -Wall -Wextra -o "$work/compare" tools/compare-libm.c crates/floats_c/out/libfloats_c.a -lm
 "$work/compare"

@@ -72,12 +72,12 @@ def pieces(process):
             yield piece
 
 
-def run(command, heard):
-    """Runs a command; `heard` gets what it writes, and b"" after a silence. Answers its status."""
+def run(command, heard, folder=None):
+    """Runs a command, in a folder if one is named; `heard` gets what it writes, and b"" after a silence. Answers its status."""
     listen()
     caller = os.getppid()
     process = subprocess.Popen(command, stdin=subprocess.DEVNULL, stdout=subprocess.PIPE, stderr=subprocess.STDOUT,
-                               start_new_session=True)
+                               cwd=folder, start_new_session=True)
     try:
         for piece in pieces(process):
             if ASKED or os.getppid() != caller:

@@ -1,31 +1,45 @@
-"""`rt check CRATE`, told in a line for each crate while it is proved: which it is of how many, and how long it took last time.
+"""`rt run` in a program's folder, told in a line for each crate while it is proved: which it is of how many, and how long it took
+last time.
 
-rt keeps what a crate's check says in target/log/CRATE.out from the check's start on, so a file that is newer than the run tells
-that its crate is at work. The whole output is in target/build.out. The times are kept in target/build.times.
+rt proves what has changed in the program and in the crates below it, each after those that it uses, builds the program and runs it,
+here on no input. The program is put into target/bin, all that was said into target/build.out, and the seconds that each crate took
+are kept in target/build.times.
 """
+import filecmp
 import os
 import re
+import shutil
 import sys
+import time
 
 import group
 
 ROOT = os.path.dirname(os.path.dirname(os.path.abspath(__file__)))
 TARGET = os.path.join(ROOT, "target")
 OUT, TIMES = os.path.join(TARGET, "build.out"), os.path.join(TARGET, "build.times")
-PROVED = re.compile(r"rt: (\w+) proved \((?:(\d+) s|unchanged)")
+# What is said of a crate when its proof begins, of each of its items, and when all of it is proved.
+AT_WORK = re.compile(rb"rt: chose --jobs \d+ for (\w+)$|(?:fn|struct|enum|impl) (\w+)::")
+PROVED = b"logic=proved "
+# Where another rt is at work on the same, this one waits for it.
+WAITS = re.compile(rb"rt: .*waiting for")
+# What is said of items and libraries that are proved.
+COUNTED = re.compile(r"so far: |logic |statements |library |crate |axioms |only=|rt: chose |.*: proved$")
 
 
-def reached(crate):
-    """The crate, and the repository's crates that it uses, by crates.txt."""
+def uses():
+    """The crates that each crate uses, by crates.txt."""
     with open(os.path.join(ROOT, "crates.txt"), encoding="utf-8") as file:
         rows = (line.partition("#")[0].partition(":") for line in file)
-        used = {name.strip(): rest.split() for name, colon, rest in rows if colon}
-    found, todo = set(), [crate]
-    while todo:
-        name = todo.pop()
-        if name in used and name not in found:
-            found.add(name)
-            todo.extend(used[name])
+        return {name.split()[0]: rest.split() for name, colon, rest in rows if colon}
+
+
+def reached(crate, used, before=()):
+    """The repository's crates, with those `before`: this one and what it uses, each after those that it uses itself, as rt goes."""
+    found = [*before]
+    if crate in used and crate not in found:
+        for name in used[crate]:
+            found = reached(name, used, found)
+        found.append(crate)
     return found
 
 
@@ -37,57 +51,39 @@ def lines_of(path):
         return []
 
 
-def log_of(crate):
-    return os.path.join(TARGET, "log", f"{crate}.out")
-
-
-def last_times(crates):
-    """The seconds of each crate's last proof: as kept, or as rt's own log has them, where it proved the crate by itself."""
-    found = dict(line.split() for line in lines_of(TIMES))
-    for match in (PROVED.match(line) for crate in crates for line in lines_of(log_of(crate))):
-        if match and match.group(2):
-            found[match.group(1)] = match.group(2)
-    return found
-
-
 class Told:
     """What is said on standard error while rt runs, and what is kept of its output."""
 
     def __init__(self, crates, out):
-        self.crates, self.out, self.times = crates, out, last_times(crates)
-        self.began, self.known, self.rest = os.stat(OUT).st_mtime_ns, set(), b""
+        self.crates, self.out, self.rest = crates, out, b""
+        self.times = dict(line.split() for line in lines_of(TIMES))
+        self.at_work, self.began = None, time.monotonic()
 
     def heard(self, piece):
         """A piece of rt's output, or nothing, after a silence."""
         self.out.write(piece)
+        self.out.flush()
         *lines, self.rest = (self.rest + piece).split(b"\n")
-        for match in (PROVED.match(line.decode(errors="replace")) for line in lines):
+        for line in lines:
+            match = AT_WORK.match(line)
             if match:
-                self.ended(*match.groups())
-        if not piece:
-            self.name_those_at_work()
+                self.begins((match[1] or match[2]).decode())
+            elif line.startswith(PROVED):
+                self.ends()
+            elif WAITS.match(line):
+                print(line.decode(errors="replace"), file=sys.stderr, flush=True)
 
-    def ended(self, crate, seconds):
-        """A crate that is proved needs no announcement any more; one that is unchanged has no new time."""
-        self.known.add(crate)
-        if seconds:
-            self.times[crate] = seconds
-
-    def name_those_at_work(self):
-        for crate in sorted(self.crates - self.known):
-            if self.is_at_work(crate):
-                self.announce(crate)
-
-    def is_at_work(self, crate):
-        try:
-            return os.stat(log_of(crate)).st_mtime_ns >= self.began
-        except OSError:
-            return False
-
-    def announce(self, crate):
-        self.known.add(crate)
+    def begins(self, crate):
+        if crate == self.at_work or crate not in self.crates:
+            return
+        self.at_work, self.began = crate, time.monotonic()
         before = f" ({self.times[crate]} s last time)" if crate in self.times else ""
-        print(f"proving {len(self.known)} of {len(self.crates)}: {crate}{before}", file=sys.stderr, flush=True)
+        place = self.crates.index(crate) + 1
+        print(f"proving {place} of {len(self.crates)}: {crate}{before}", file=sys.stderr, flush=True)
+
+    def ends(self):
+        if self.at_work:
+            self.times[self.at_work] = f"{time.monotonic() - self.began:.0f}"
 
     def keep_times(self):
         with open(TIMES, "w", encoding="utf-8") as file:
@@ -95,32 +91,36 @@ class Told:
 
 
 def unproved(lines):
-    """What was said but for the crates that are proved; what stands before a line of rt's belongs to it."""
-    block = []
+    """What was said behind the last crate that is proved, without what is counted there."""
+    said = []
     for line in lines:
-        block.append(line)
-        if line.startswith("rt: "):
-            yield from [] if PROVED.match(line) else block
-            block = []
-    yield from block
+        said = [] if line.startswith(PROVED.decode()) else [*said, line]
+    return [line for line in said if not COUNTED.match(line)]
 
 
-def is_recorded_otherwise(crate):
-    """Is the program proved, and only its answers are not those recorded?"""
-    return any(line.startswith(f"rt: {crate} proved, and its run FAILED") for line in lines_of(OUT))
+def put(crate, folder):
+    """Puts the built program into target/bin, at once, since it may be running there."""
+    built, place = os.path.join(folder, "out", crate), os.path.join(TARGET, "bin", crate)
+    if os.path.exists(place) and filecmp.cmp(built, place, shallow=False):
+        return
+    os.makedirs(os.path.dirname(place), exist_ok=True)
+    shutil.copy2(built, place + ".new")
+    os.replace(place + ".new", place)
 
 
-def check(crate):
-    """Runs rt, and says what it said of crates that are not proved; answers its status."""
+def build(crate):
+    """Runs rt, and says what it said of a crate that is not proved; answers its status."""
     os.makedirs(TARGET, exist_ok=True)
+    folder = os.path.join(ROOT, "crates", crate)
     with open(OUT, "wb") as out:
-        told = Told(reached(crate), out)
+        told = Told(reached(crate, uses()), out)
         try:
-            status = group.run(["rt", "check", crate], told.heard)
+            status = group.run(["rt", "run"], told.heard, folder)
         finally:
             told.keep_times()
     if status:
-        said = (line for line in unproved(lines_of(OUT)) if not line.endswith(": proved"))
-        ended = f"rt check {crate} ended with status {status}; all that it said is in target/build.out"
-        print(*said, ended, sep="\n", file=sys.stderr)
+        ended = f"rt run in crates/{crate} ended with status {status}; all that it said is in target/build.out"
+        print(*unproved(lines_of(OUT)), ended, sep="\n", file=sys.stderr)
+    else:
+        put(crate, folder)
     return status

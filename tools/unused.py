@@ -15,6 +15,8 @@ ROOT = pathlib.Path(__file__).resolve().parent.parent / "crates"
 ANTT_USE = re.compile(r"^[ \t]*(?P<public>pub )?use (?P<path>[^\s{]+?)(?:\.\{(?P<names>[^}]*)\}| as (?P<whole>\S+))?[ \t]*$", re.M)
 GHOST_USE = re.compile(r"^\s*ghost use (?P<path>[^\s{;]+?)(?:\.\{(?P<names>[^}]*)\}| as (?P<whole>[^\s;]+))?;", re.M)
 RUST_USE = re.compile(r"^\s*(?P<public>pub(?:\(crate\))? )?use (?P<path>[\w:]+?)(?:::\{(?P<names>[^}]*)\})?(?: as (?P<whole>\w+))?;", re.M)
+# Traits of std, which are used by their methods.
+TRAITS = ("Read", "Write", "BufRead")
 STRING = re.compile(r'"(?:[^"\\\n]|\\.)*"')
 
 
@@ -38,7 +40,7 @@ def listed(names):
 def antt_tokens(text):
     """The words of antt text, each as the first part of its path; a field (`.name`) is none."""
     found = set()
-    for word in re.split(r"[\s(){};,⌜⌝]+", text):
+    for word in re.split(r"[\s(){};,]+", text):
         if word and not word.startswith("."):
             found.add(word)
             found.add(word.split(".")[0])
@@ -47,16 +49,16 @@ def antt_tokens(text):
 
 
 def is_used(name, tokens):
-    """Is the name, or the operator `_name_` by its parts, among the words?"""
+    """Is the name, or the operator `◌name◌` by its parts, among the words?"""
     if name in tokens:
         return True
-    parts = [p for p in name.split("_") if p]
-    return "_" in name and all(part_used(p, tokens) for p in parts)
+    parts = [p for p in name.split("◌") if p]
+    return "◌" in name and all(part_used(p, tokens) for p in parts)
 
 
 def part_used(part, tokens):
-    """A part of an operator: alone, or with a `_` beside it, as in `(_≤ n)`."""
-    return any(t in tokens for t in (part, "_" + part, part + "_", "_" + part + "_"))
+    """A part of an operator: alone, or with a `◌` beside it, as in `(◌≤ n)`."""
+    return any(t in tokens for t in (part, "◌" + part, part + "◌", "◌" + part + "◌"))
 
 
 def brought(m):
@@ -88,7 +90,9 @@ def unused_antt(text):
 
 
 def rust_used(name, code):
-    """A type by its name; a module, a function or a struct of C only before `::`, `(` or `{`."""
+    """A type by its name; a module or a function only before `::`, `(` or `{`. Of a trait no word need stand there."""
+    if name in TRAITS:
+        return True
     if name[0].isupper():
         return re.search(r"(?<![.\w])%s\b" % re.escape(name), code) is not None
     return re.search(r"(?<![.\w:])(?<!fn )%s\s*(?:::|\(|\{)" % re.escape(name), code) is not None
@@ -105,7 +109,8 @@ def unused_rt(text):
 
 def files(crates):
     for crate in crates or sorted(p.name for p in ROOT.iterdir() if p.is_dir()):
-        yield from sorted(p for p in (ROOT / crate).rglob("*") if p.suffix in (".rt", ".antt"))
+        for part in ("src", "specs", "proofs"):
+            yield from sorted(p for p in (ROOT / crate / part).rglob("*") if p.suffix in (".rt", ".antt"))
 
 
 def main():

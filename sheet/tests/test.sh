@@ -5,5 +5,5 @@
 set -eu
 root=$(cd "$(dirname "$0")/../.." && pwd)
 # In the background, since a shell that is interrupted waits for what it runs in front.
-"$root/tools/build.sh" engine & wait $!
+"$root/tools/build.sh" rehearse & wait $!
 cd "$root/sheet/tests" && exec python3 -B -m unittest

@@ -14,24 +14,32 @@ from places import commands_with, text_of
 # Two crates, the second with two children: one that does not end when asked, one in a group of its own.
 RT = """#!/bin/bash
 [ "$1" != version ] || { echo another kit; exit; }
-mkdir -p target/log
-: > target/log/lists.out
+[ "$1 $PWD" = "run $(cd "${0%/*}/.." && pwd -P)/crates/rehearse" ] || exit 9
+echo "rt: chose --jobs 2 for lists"
 sleep 1
 echo "fn lists::one: proved"
-echo "rt: lists proved (7 s)"
-: > target/log/words.out
+echo "crate lists: modules loaded=1 checked=2"
+echo "logic=proved functions=1"
+echo "fn words::one: proved"
 (trap '' TERM; exec sleep "$LONG") &
 set -m
 sleep "$LONG" &
 wait
-echo "fn words::one: proved"
 echo "Words.antt:3:4: error: the goal"
 echo "    is not met"
-echo "rt: words NOT PROVED (exit 1, 2 s)"
+echo "crate words: modules loaded=1 checked=2"
+echo "logic=not-proved"
+echo "rt: the library words did not build, so nothing above it was checked"
 exit 3
 """
-SCRIPT = "#!/bin/sh\nset -eu\ntools/build.sh engine & wait $!\n"
-NEEDED = ("sh", "bash", "dirname", "mkdir", "sleep", "python3")
+# The same with all proved: the program stands in the crate's folder.
+PROVED = RT[:RT.index('echo "fn words')] + """\
+mkdir -p out
+echo 'echo built' > out/rehearse
+chmod +x out/rehearse
+"""
+SCRIPT = "#!/bin/sh\nset -eu\ntools/build.sh rehearse & wait $!\n"
+NEEDED = ("sh", "bash", "chmod", "dirname", "mkdir", "sleep", "python3")
 
 
 class Scripts(places.Folder):
@@ -39,6 +47,7 @@ class Scripts(places.Folder):
         super().setUp()
         shutil.copytree(os.path.join(places.ROOT, "tools"), os.path.join(self.folder, "tools"))
         self.file("crates.txt", "# a line for each crate\nlists:\nwords: lists io\nrehearse: words\nother: lists\n")
+        os.makedirs(os.path.join(self.folder, "crates", "rehearse"))
         self.bin = os.path.join(self.folder, "bin")
         os.mkdir(self.bin)
         for name in NEEDED:
@@ -79,10 +88,19 @@ proving 1 of 3: lists
 proving 2 of 3: words
 Words.antt:3:4: error: the goal
     is not met
-rt: words NOT PROVED (exit 1, 2 s)
-rt check rehearse ended with status 3; all that it said is in target/build.out
+logic=not-proved
+rt: the library words did not build, so nothing above it was checked
+rt run in crates/rehearse ended with status 3; all that it said is in target/build.out
 """ % text_of(self.folder, "tools", "kit-version").strip()))
-        self.assertIn("proving 1 of 3: lists (7 s last time)\n", self.ended()[2])
+        self.assertIn("proving 1 of 3: lists (1 s last time)\n", self.ended()[2])
+
+    def test_what_is_built(self):
+        self.file("tools/kit-version", "another kit\n")
+        self.program("bin/rt", PROVED)
+        self.assertEqual(self.ended(), (0, "", "proving 1 of 3: lists\n"))
+        built = os.path.join(self.folder, "target", "bin", "rehearse")
+        self.assertTrue(os.access(built, os.X_OK))
+        self.assertEqual(text_of(built), "echo built\n")
 
     def test_interrupted(self):
         for at, sent in enumerate((signal.SIGINT, signal.SIGTERM, signal.SIGHUP)):
