@@ -1,15 +1,9 @@
-// Cash in an account: credit, debit and forced debit move it in the account itself, which is lent.
-// The functions with plain parameters below them open an account of some cash and lend it.
+// Cash in an account: credit, debit and forced debit move it in the account itself.
+// The functions below them open an account of some cash and move it there.
 #![tactic(auto)]
 
 ghost use Rattle.std.specs.Prelude.{◌≡◌};
 ghost use Rattle.account.specs.Account.{credit_of, debit_of, force_of, account_of, debit_number, no_number, Tells};
-
-mod value;
-
-use crate::value::{
-    account_of, answered, credit_to, debit_from, event_of, force_debit_from, with_cash,
-};
 
 // The Rust's four events, then those of the numbers 2 and 16. Each carries its amount.
 #[derive(Clone, Copy)]
@@ -34,58 +28,65 @@ pub struct Moved {
     pub event: BrokerCashEvent,
 }
 
-pub fn credit(account: &mut Account, value: f64) -> BrokerCashEvent
-    ensures { (result ≡ (credit_of account.old.cash value).event) × (account.new ≡ account_of (credit_of account.old.cash value)) × Tells result (no_number account.old.cash value) value }
-{
-    let a = *account;
-    let m = credit_to(a, value);
-    let b = account_of(m);
-    *account = b;
-    event_of(m)
-}
+impl Account {
+    #[tactic(auto, unfolding(crate::specs::Account::credit_of))]
+    pub fn credit(&mut self, value: f64) -> BrokerCashEvent
+        ensures { (result ≡ (credit_of self.old.cash value).event) × (self.new ≡ account_of (credit_of self.old.cash value)) × Tells result (no_number self.old.cash value) value }
+    {
+        self.cash = value + self.cash;
+        BrokerCashEvent::DepositSuccess(value)
+    }
 
-// Fails above cash.
-pub fn debit(account: &mut Account, value: f64) -> BrokerCashEvent
-    ensures { (result ≡ (debit_of account.old.cash value).event) × (account.new ≡ account_of (debit_of account.old.cash value)) × Tells result (debit_number account.old.cash value) value }
-{
-    let a = *account;
-    let m = debit_from(a, value);
-    let b = account_of(m);
-    *account = b;
-    event_of(m)
-}
+    // Fails above cash.
+    #[tactic(auto, unfolding(crate::specs::Account::debit_of, crate::specs::Account::force_of, crate::specs::Account::debit_number, market::specs::Faults::drawn))]
+    pub fn debit(&mut self, value: f64) -> BrokerCashEvent
+        ensures { (result ≡ (debit_of self.old.cash value).event) × (self.new ≡ account_of (debit_of self.old.cash value)) × Tells result (debit_number self.old.cash value) value }
+    {
+        if value > self.cash {
+            return BrokerCashEvent::WithdrawFailure(value);
+        }
+        self.debit_force(value)
+    }
 
-// Cash may fall below zero.
-pub fn debit_force(account: &mut Account, value: f64) -> BrokerCashEvent
-    ensures { (result ≡ (force_of account.old.cash value).event) × (account.new ≡ account_of (force_of account.old.cash value)) × Tells result (no_number account.old.cash value) value }
-{
-    let a = *account;
-    let m = force_debit_from(a, value);
-    let b = account_of(m);
-    *account = b;
-    event_of(m)
+    // Cash may fall below zero.
+    #[tactic(auto, unfolding(crate::specs::Account::force_of))]
+    pub fn debit_force(&mut self, value: f64) -> BrokerCashEvent
+        ensures { (result ≡ (force_of self.old.cash value).event) × (self.new ≡ account_of (force_of self.old.cash value)) × Tells result (no_number self.old.cash value) value }
+    {
+        self.cash -= value;
+        BrokerCashEvent::WithdrawSuccess(value)
+    }
 }
 
 pub fn credited(cash: f64, value: f64) -> Moved
     ensures { (result ≡ credit_of cash value) × Tells result.event (no_number cash value) value }
 {
-    let mut a = with_cash(cash);
-    let e = credit(&mut a, value);
-    answered(a, e)
+    let mut account = Account { cash };
+    let event = account.credit(value);
+    Moved {
+        cash: account.cash,
+        event,
+    }
 }
 
 pub fn debited(cash: f64, value: f64) -> Moved
     ensures { (result ≡ debit_of cash value) × Tells result.event (debit_number cash value) value }
 {
-    let mut a = with_cash(cash);
-    let e = debit(&mut a, value);
-    answered(a, e)
+    let mut account = Account { cash };
+    let event = account.debit(value);
+    Moved {
+        cash: account.cash,
+        event,
+    }
 }
 
 pub fn force_debited(cash: f64, value: f64) -> Moved
     ensures { (result ≡ force_of cash value) × Tells result.event (no_number cash value) value }
 {
-    let mut a = with_cash(cash);
-    let e = debit_force(&mut a, value);
-    answered(a, e)
+    let mut account = Account { cash };
+    let event = account.debit_force(value);
+    Moved {
+        cash: account.cash,
+        event,
+    }
 }

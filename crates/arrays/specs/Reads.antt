@@ -4,7 +4,7 @@ use Rattle.market.specs.Orders.{zero64}
 use Rattle.market.specs.Quotes.{blank_quote}
 use Rattle.market.specs.declared.quote.Quote.{Quote}
 use Rattle.costs.specs.declared.BrokerCost.TheVariants.{Flat}
-use Rattle.costs.specs.declared.Cost.{Cost}
+use Rattle.costs.specs.declared.BrokerCost.{BrokerCost}
 use Rattle.broker.specs.declared.state.UistBroker.{UistBroker}
 use Rattle.reads.specs.Answers.{AnswersList}
 use Rattle.reads.specs.declared.collected.Holding.{Holding}
@@ -26,5 +26,5 @@ blank_holdings = replicate 1024 (record { symbol = 0; quantity = zero64 })
 unfoldable pub blank_quotes : List Quote
 blank_quotes = replicate 1024 blank_quote
 
-unfoldable pub blank_costs : List Cost
-blank_costs = replicate 1024 (record { cost = Flat zero64 })
+unfoldable pub blank_costs : List BrokerCost
+blank_costs = replicate 1024 (Flat zero64)

@@ -1,57 +1,27 @@
 // The reads of the broker's lists, for a caller whose list is an array of 1,024 rows: each lends the
 // first rows of one that it makes.
-ghost use Rattle.std.specs.Prelude.{◌≡◌, min};
+ghost use Rattle.std.specs.Prelude.{◌≡◌};
 ghost use Rattle.portfolio.specs.State.{money_of};
 ghost use Rattle.reads.specs.Rows.{position_rows, holding_rows, pending_rows, quote_rows, cost_rows};
 ghost use Rattle.arrays.specs.Reads.{ReadOn, blank_positions, blank_holdings, blank_quotes, blank_costs};
 
-use crate::at_most;
+use crate::Lent;
 use broker::state::UistBroker;
-use costs::{BrokerCost, Cost};
+use costs::BrokerCost;
 use market::quote::Quote;
 use reads::collected::Holding;
 use reads::uist;
 use reads::uist::ListRead;
 
-// An answer, with the list that was lent.
-#[derive(Clone, Copy)]
-pub struct PositionsRead {
-    pub answer: ListRead,
-    pub rows: [u32; 1024],
-}
-
-#[derive(Clone, Copy)]
-pub struct HoldingsRead {
-    pub answer: ListRead,
-    pub rows: [Holding; 1024],
-}
-
-#[derive(Clone, Copy)]
-pub struct QuotesRead {
-    pub answer: ListRead,
-    pub rows: [Quote; 1024],
-}
-
-#[derive(Clone, Copy)]
-pub struct CostsRead {
-    pub answer: ListRead,
-    pub rows: [Cost; 1024],
-}
-
-// How many entries are lent.
-pub(crate) fn entries(room: usize) -> usize
-    ensures { result ≡ min room 1024 }
-{
-    at_most(room, 1024)
-}
-
-pub(crate) fn no_positions() -> [u32; 1024]
+#[tactic(auto, unfolding(crate::specs::Reads::blank_positions))]
+fn no_positions() -> [u32; 1024]
     ensures { result ≡ blank_positions }
 {
     [0; 1024]
 }
 
-pub(crate) fn no_holdings() -> [Holding; 1024]
+#[tactic(auto, unfolding(crate::specs::Reads::blank_holdings))]
+fn no_holdings() -> [Holding; 1024]
     ensures { result ≡ blank_holdings }
 {
     let h = Holding {
@@ -61,93 +31,56 @@ pub(crate) fn no_holdings() -> [Holding; 1024]
     [h; 1024]
 }
 
+#[tactic(auto, unfolding(crate::specs::Reads::blank_quotes))]
 pub(crate) fn no_quotes() -> [Quote; 1024]
     ensures { result ≡ blank_quotes }
 {
-    let q = Quote::blank();
-    [q; 1024]
+    [Quote::blank(); 1024]
 }
 
-pub(crate) fn no_costs() -> [Cost; 1024]
+#[tactic(auto, unfolding(crate::specs::Reads::blank_costs))]
+fn no_costs() -> [BrokerCost; 1024]
     ensures { result ≡ blank_costs }
 {
-    let c = Cost {
-        cost: BrokerCost::Flat(0.0),
-    };
-    [c; 1024]
+    [BrokerCost::Flat(0.0); 1024]
 }
 
-pub(crate) fn holdings_read(answer: ListRead, rows: [Holding; 1024]) -> HoldingsRead
-    ensures { result ≡ record { answer = answer; rows = rows } }
+pub fn positions_on(b: UistBroker, room: usize) -> Lent<ListRead, [u32; 1024]>
+    ensures { ReadOn b (position_rows (money_of b.portfolio)) room blank_positions result.answer result.list }
 {
-    HoldingsRead {
-        answer: answer,
-        rows: rows,
-    }
+    let mut list = no_positions();
+    let answer = uist::get_positions(b, &mut list[..room.min(1024)]);
+    Lent { answer, list }
 }
 
-pub(crate) fn quotes_read(answer: ListRead, rows: [Quote; 1024]) -> QuotesRead
-    ensures { result ≡ record { answer = answer; rows = rows } }
+pub fn holdings_on(b: UistBroker, room: usize) -> Lent<ListRead, [Holding; 1024]>
+    ensures { ReadOn b (holding_rows (money_of b.portfolio)) room blank_holdings result.answer result.list }
 {
-    QuotesRead {
-        answer: answer,
-        rows: rows,
-    }
+    let mut list = no_holdings();
+    let answer = uist::get_holdings(b, &mut list[..room.min(1024)]);
+    Lent { answer, list }
 }
 
-pub(crate) fn costs_read(answer: ListRead, rows: [Cost; 1024]) -> CostsRead
-    ensures { result ≡ record { answer = answer; rows = rows } }
+pub fn pending_on(b: UistBroker, room: usize) -> Lent<ListRead, [Holding; 1024]>
+    ensures { ReadOn b (pending_rows (money_of b.portfolio)) room blank_holdings result.answer result.list }
 {
-    CostsRead {
-        answer: answer,
-        rows: rows,
-    }
+    let mut list = no_holdings();
+    let answer = uist::get_pending_orders(b, &mut list[..room.min(1024)]);
+    Lent { answer, list }
 }
 
-pub fn positions_on(b: UistBroker, room: usize) -> PositionsRead
-    ensures { ReadOn b (position_rows (money_of b.portfolio)) room blank_positions result.answer result.rows }
+pub fn quotes_on(b: UistBroker, room: usize) -> Lent<ListRead, [Quote; 1024]>
+    ensures { ReadOn b (quote_rows (money_of b.portfolio)) room blank_quotes result.answer result.list }
 {
-    let n = entries(room);
-    let mut rows = no_positions();
-    let y = uist::get_positions(b, &mut rows[..n]);
-    PositionsRead {
-        answer: y,
-        rows: rows,
-    }
+    let mut list = no_quotes();
+    let answer = uist::get_quotes(b, &mut list[..room.min(1024)]);
+    Lent { answer, list }
 }
 
-pub fn holdings_on(b: UistBroker, room: usize) -> HoldingsRead
-    ensures { ReadOn b (holding_rows (money_of b.portfolio)) room blank_holdings result.answer result.rows }
+pub fn costs_on(b: UistBroker, room: usize) -> Lent<ListRead, [BrokerCost; 1024]>
+    ensures { ReadOn b (cost_rows (money_of b.portfolio)) room blank_costs result.answer result.list }
 {
-    let n = entries(room);
-    let mut rows = no_holdings();
-    let y = uist::get_holdings(b, &mut rows[..n]);
-    holdings_read(y, rows)
-}
-
-pub fn pending_on(b: UistBroker, room: usize) -> HoldingsRead
-    ensures { ReadOn b (pending_rows (money_of b.portfolio)) room blank_holdings result.answer result.rows }
-{
-    let n = entries(room);
-    let mut rows = no_holdings();
-    let y = uist::get_pending_orders(b, &mut rows[..n]);
-    holdings_read(y, rows)
-}
-
-pub fn quotes_on(b: UistBroker, room: usize) -> QuotesRead
-    ensures { ReadOn b (quote_rows (money_of b.portfolio)) room blank_quotes result.answer result.rows }
-{
-    let n = entries(room);
-    let mut rows = no_quotes();
-    let y = uist::get_quotes(b, &mut rows[..n]);
-    quotes_read(y, rows)
-}
-
-pub fn costs_on(b: UistBroker, room: usize) -> CostsRead
-    ensures { ReadOn b (cost_rows (money_of b.portfolio)) room blank_costs result.answer result.rows }
-{
-    let n = entries(room);
-    let mut rows = no_costs();
-    let y = uist::get_trade_costs(b, &mut rows[..n]);
-    costs_read(y, rows)
+    let mut list = no_costs();
+    let answer = uist::get_trade_costs(b, &mut list[..room.min(1024)]);
+    Lent { answer, list }
 }

@@ -1,9 +1,5 @@
 -- The laws that the functions' proofs cite.
-pub mod Drawing
 pub mod Sending
-pub mod Cashing
 pub mod Selling
 pub mod Settling
-pub mod Walking
 pub mod Updating
-pub mod Building

@@ -2,11 +2,13 @@
 use Prim.Native.Nat.{ℕ, ◌≤◌}
 use native.Mathlib.Omega.{arith}
 use mathlib.Core.Bool.{true, false}
-use mathlib.Core.Path.{◌≡◌, ap, ◌∙◌}
-use mathlib.Core.List.{[]}
-use mathlib.Core.Option.{Option}
+use mathlib.Core.Path.{◌≡◌, refl, ap, ◌∙◌}
+use mathlib.Core.List.{List, []}
+use Rattle.std.specs.declared.option.Option.{Option}
 use lib.ListN.{length, take, drop, length-append, length-map, length-take}
 use Rattle.lists.specs.Lists.{over, keep}
+use Rattle.lists.proofs.Over.{take-over}
+use Rattle.market.specs.declared.trade.Trade.{Trade}
 use Rattle.market.specs.Faults.{drawn, first_drawn}
 use Rattle.market.specs.Quotes.{row_at}
 use Rattle.market.specs.declared.quote.Quote.{Quote}
@@ -38,12 +40,12 @@ number-none b n t f e =
     (counts-hold b.exchange.counts b.portfolio.lot sound, (first-none t f own.1).0)
 
 -- the tick of a check that draws no number acts
-pub tick-acts : (b : UistBroker) (t : Table) (n f : ℕ) → check_fault b n t.fault f ≡ 0 → tick_of b.exchange t ≡ tick_done b.exchange (row_at t)
+pub tick_acts : (b : UistBroker) (t : Table) (n f : ℕ) → check_fault b n t.fault f ≡ 0 → tick_of b.exchange t ≡ tick_done b.exchange (row_at t)
 unfolding tick_of drawn
-tick-acts b t n f k = let s = number-none b n t.fault f k in rw (s.0, s.1)
+tick_acts b t n f k = let s = number-none b n t.fault f k in rw (s.0, s.1)
 
 pub tick-trades : (b : UistBroker) (t : Table) (n f : ℕ) → check_fault b n t.fault f ≡ 0 → (tick_of b.exchange t).trades ≡ over (trades_of (row_at t) (resting_of b.exchange)) no_trades
-tick-trades b t n f k = ap (λ (x : Ticked). x.trades) (tick-acts b t n f k)
+tick-trades b t n f k = ap (λ (x : Ticked). x.trades) (tick_acts b t n f k)
 
 -- after a tick no order waits, and no more rest than rested and waited: sends fit
 pub ticked-fits : (e : UistV1) (rows : ℕ → Option Quote) → broken_of e.counts ≡ false → SendsFit (ticked e rows).counts
@@ -61,3 +63,10 @@ ticked-fits e rows h =
       places = omega (arith, s.together, few-executed rows e.book c.resting, length-append (keep (stays rows) (resting_of e)) new);
       rows = s.bounded;
     }
+
+pub fits_ticked : (b : UistBroker) (t : Table) (n f : ℕ) → check_fault b n t.fault f ≡ 0 → SendsFit (ticked b.exchange (row_at t)).counts
+fits_ticked b t n f k = ticked-fits b.exchange (row_at t) (number-none b n t.fault f k).0
+
+-- the trades that a tick lists first
+pub listed_trades : (l : List Trade) → take (length l) (over l no_trades) ≡ l
+listed_trades l = take-over l no_trades (length l) refl

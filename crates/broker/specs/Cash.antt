@@ -1,5 +1,6 @@
 -- Deposits and withdrawals on the program's state. Definitions only.
 use Rattle.std.specs.Prelude.{cond, not, List, [], ◌∷◌, ◌≡◌, Float}
+use Rattle.std.specs.Prelude.{Option, None, Some}
 use Rattle.std.specs.Float.Ieee.Scale.{finite}
 use Rattle.market.specs.Faults.{Test, ◌draws◌, drawn}
 use Rattle.account.specs.Account.{Tells}
@@ -13,7 +14,7 @@ use Rattle.broker.specs.declared.state.UistBroker.{UistBroker}
 use Rattle.broker.specs.declared.cash.CashMoved.{CashMoved}
 
 abbrev pub cash_funds : Funds → Float → Funds
-cash_funds f x = record { holding = f.holding; pending = f.pending; awaited = f.awaited; cash = x; failed = f.failed }
+cash_funds f x = record { holding = f.holding; pending = f.pending; cash = x; failed = f.failed }
 
 abbrev pub with_cash : UistBroker → Float → UistBroker
 with_cash b x = with_funds b (cash_funds b.portfolio.funds x)
@@ -23,6 +24,14 @@ cash_of b = b.portfolio.funds.cash
 
 abbrev pub answered : UistBroker → BrokerCashEvent → CashMoved
 answered b e = record { broker = b; event = e }
+
+-- the refusal of a call about an amount: 16, 2
+unfoldable pub amount_refusal : UistBroker → Float → Option BrokerCashEvent
+amount_refusal b a = cond (broken b) (Some (Broken a)) (cond (finite a) None (Some (NotFinite a)))
+
+-- of a call that moves cash: 16, 2, 4
+unfoldable pub cash_refusal : UistBroker → Float → Option BrokerCashEvent
+cash_refusal b a = cond (broken b) (Some (Broken a)) (cond (finite a) (cond b.portfolio.funds.failed (Some (OperationFailure a)) None) (Some (NotFinite a)))
 
 -- 16, 2, 4; else what is done
 unfoldable pub cash_moved : UistBroker → Float → CashMoved → CashMoved

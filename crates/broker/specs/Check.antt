@@ -18,13 +18,12 @@ use Rattle.broker.specs.Cash.{cash_of}
 use Rattle.broker.specs.Liquidate.{sales_of, liquidated_by}
 use Rattle.portfolio.specs.declared.state.Funds.{Funds}
 use Rattle.broker.specs.declared.state.UistBroker.{UistBroker}
-use Rattle.broker.specs.declared.liquidate.Liquidated.{Liquidated}
 use Rattle.broker.specs.declared.check.Checked.{Checked}
 
 -- ---- a shortfall
 
 abbrev pub fail_funds : Funds → Funds
-fail_funds f = record { holding = f.holding; pending = f.pending; awaited = f.awaited; cash = f.cash; failed = true }
+fail_funds f = record { holding = f.holding; pending = f.pending; cash = f.cash; failed = true }
 
 unfoldable pub failed_of : UistBroker → UistBroker
 failed_of b = with_funds b (fail_funds b.portfolio.funds)
@@ -39,9 +38,9 @@ failed_unless ok b = cond ok b (failed_of b)
 unfoldable pub rescued_by : UistBroker → UistBroker
 rescued_by b = cond (below (cash_of b) zero64) (failed_unless (succeeds (sales_of b (shortfall b))) (liquidated_by b (shortfall b))) b
 
-pub record Rescues (b : UistBroker) (r : Liquidated) : Type 0 where
-  pub broker : r.broker ≡ rescued_by b
-  pub queued : r.queued ≤ held_count (money_of b.portfolio)
+pub record Rescues (b : UistBroker) (after : UistBroker) (queued : ℕ) : Type 0 where
+  pub broker : after ≡ rescued_by b
+  pub few : queued ≤ held_count (money_of b.portfolio)
 
 -- ---- the check
 

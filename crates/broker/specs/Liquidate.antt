@@ -1,6 +1,6 @@
 -- Liquidation on the program's state. Definitions only.
-use Rattle.std.specs.Prelude.{◌≤◌, not, cond, ◌≡◌, List, [], ◌∷◌, Float}
-use Rattle.std.proofs.Math.Option.{Option}
+use Rattle.std.specs.Prelude.{ℕ, ◌≤◌, not, cond, ◌≡◌, List, [], ◌∷◌, Float}
+use Rattle.std.specs.Prelude.{Option}
 use Rattle.std.specs.Float.Ieee.Scale.{finite}
 use Rattle.lists.specs.Lists.{given}
 use Rattle.market.specs.Faults.{Test, ◌draws◌}
@@ -15,7 +15,6 @@ use Rattle.broker.specs.Send.{sent_all}
 use Rattle.broker.specs.Cash.{with_cash, cash_of, answered}
 use Rattle.broker.specs.declared.state.UistBroker.{UistBroker}
 use Rattle.broker.specs.declared.cash.CashMoved.{CashMoved}
-use Rattle.broker.specs.declared.liquidate.Liquidated.{Liquidated}
 
 -- failing debits the amount from cash unless the amount exceeds cash
 abbrev pub failing : UistBroker → Float → UistBroker
@@ -28,11 +27,11 @@ sales_of b a = sales_for (money_of b.portfolio) a
 unfoldable pub liquidated_by : UistBroker → Float → UistBroker
 liquidated_by b a = given (sales_of b a) (failing b a) (sent_all b)
 
--- the free count of sells queued is at most the number of held symbols
-pub record Liquidates (b : UistBroker) (a : Float) (r : Liquidated) : Type 0 where
-  pub broker : r.broker ≡ liquidated_by b a
-  pub done : r.done ≡ succeeds (sales_of b a)
-  pub queued : r.queued ≤ held_count (money_of b.portfolio)
+-- whether it succeeds, and how many sells it queued: that count is free, at most the number of held symbols
+pub record Liquidates (b : UistBroker) (a : Float) (after : UistBroker) (queued : Option ℕ) : Type 0 where
+  pub broker : after ≡ liquidated_by b a
+  pub done : succeeds queued ≡ succeeds (sales_of b a)
+  pub few : given queued 0 (λ n. n) ≤ held_count (money_of b.portfolio)
 
 -- 16, 2; success is answered, or 12
 unfoldable pub liquidate_of : UistBroker → Float → CashMoved

@@ -1,6 +1,6 @@
 -- What a broker tells of itself, with the numbers of those who ask: 16; 1 for a symbol above 255; 2 for what is not finite. Definitions only.
 use Rattle.std.specs.Prelude.{ℕ, Bool, true, false, not, ◌||◌, ◌≡◌, [], ◌∷◌, ltb, Float}
-use Rattle.std.proofs.Math.Option.{Option, none, some}
+use Rattle.std.specs.Prelude.{Option, None, Some}
 use Rattle.std.specs.Float.Ieee.Scale.{finite}
 use Rattle.market.specs.Faults.{◌draws◌, drawn, unless_drawn}
 use Rattle.market.specs.Orders.{zero64}
@@ -10,9 +10,8 @@ use Rattle.costs.specs.Costs.{trade_impact_total, trade_costs}
 use Rattle.costs.specs.Kept.{costs_of}
 use Rattle.lists.specs.Lists.{given}
 use Rattle.rules.specs.Values.{value_of, sale_budget, total_value, liquidation_value}
-use Rattle.portfolio.specs.State.{money_of, amount_in}
+use Rattle.portfolio.specs.State.{money_of}
 use Rattle.broker.specs.Lender.{broken}
-use Rattle.sender.specs.Sender.{quote_in}
 use Rattle.broker.specs.declared.state.UistBroker.{UistBroker}
 use Rattle.broker.specs.declared.read.BrokerState.{BrokerState}
 use Rattle.broker.specs.declared.read.BrokerState.TheVariants.{Ready, Failed}
@@ -34,11 +33,11 @@ amounts_fault b x y = drawn ((broken b draws 16) ∷ ((not (finite x) || not (fi
 -- ---- the answers, where n is the number drawn
 
 pub record ReadsQuote (q : Option Quote) (n : ℕ) (r : QuoteRead) : Type 0 where
-  pub latest : quote_in r.latest ≡ unless_drawn n q none
+  pub quote : r.quote ≡ unless_drawn n q None
   pub fault : r.fault ≡ n
 
 pub record ReadsAmount (x : Option Float) (n : ℕ) (r : AmountRead) : Type 0 where
-  pub amount : amount_in r.amount ≡ unless_drawn n x none
+  pub amount : r.amount ≡ unless_drawn n x None
   pub fault : r.fault ≡ n
 
 unfoldable pub read_float : Float → ℕ → FloatRead
@@ -75,7 +74,7 @@ value_here b s = value_of (money_of b.portfolio) s
 
 -- what the costs leave of it in a sale
 abbrev pub value_sold : UistBroker → ℕ → Option Float
-value_sold b s = given (value_here b s) none (λ x. some (sale_budget (money_of b.portfolio) x))
+value_sold b s = given (value_here b s) None (λ x. Some (sale_budget (money_of b.portfolio) x))
 
 abbrev pub total_of : UistBroker → Float
 total_of b = total_value (money_of b.portfolio)

@@ -1,8 +1,7 @@
 -- Sends, direct insertions and deletions on the program's state. Definitions only.
-use Rattle.std.specs.Prelude.{ℕ, ◌+◌, ◌≤◌, ◌%◌, Bool, true, false, cond, Float, get_or, set, replicate}
+use Rattle.std.specs.Prelude.{ℕ, ◌+◌, ◌≤◌, ◌%◌, cond, get_or, set, replicate}
+use Rattle.std.specs.Prelude.{None, Some}
 use mathlib.Core.List.{List, [], ◌∷◌, foldl}
-use Rattle.std.specs.Float.{nan}
-use Rattle.lists.specs.Lists.{over}
 use Rattle.market.specs.Faults.{drawn, unless_drawn}
 use Rattle.market.specs.Orders.{blank_order, event_of}
 use Rattle.market.specs.declared.order.Order.{Order}
@@ -14,14 +13,12 @@ use Rattle.exchange.specs.declared.state.Counts.{Counts}
 use Rattle.rules.specs.Sends.{send_tests}
 use Rattle.portfolio.specs.State.{money_of}
 use Rattle.portfolio.specs.declared.state.Funds.{Funds}
-use Rattle.portfolio.specs.declared.state.Portfolio.{Portfolio}
 use Rattle.sender.specs.Sender.{pending_after}
 use Rattle.broker.specs.Lender.{broken}
 use Rattle.broker.specs.declared.state.UistBroker.{UistBroker}
 use Rattle.market.specs.declared.order.OrderEvent.{OrderEvent}
 use Rattle.broker.specs.declared.send.Sent.{Sent}
 use Rattle.broker.specs.declared.send.BrokerDeleted.{BrokerDeleted}
-use Rattle.broker.specs.declared.send.SentAll.{SentAll}
 
 -- an order's event: 1, 2, 4 to 9 by the rules on what the broker holds, 10 and 11 by the exchange's counts
 unfoldable pub event_for : UistBroker → Order → OrderEvent
@@ -33,20 +30,9 @@ expecting f o =
     let s = o.symbol % 256 in
     record {
       holding = f.holding;
-      pending = set f.pending s (pending_after o (get_or f.awaited s false) (get_or f.pending s nan));
-      awaited = set f.awaited s true;
+      pending = set f.pending s (Some (pending_after o (get_or f.pending s None)));
       cash = f.cash;
       failed = f.failed;
-    }
-
--- a portfolio with other pending quantities
-abbrev pub with_pending : Portfolio → List Float → List Bool → Portfolio
-with_pending p pending awaited =
-    record {
-      latest = p.latest;
-      funds = record { holding = p.funds.holding; pending = pending; awaited = awaited; cash = p.funds.cash; failed = p.funds.failed };
-      costs = p.costs;
-      lot = p.lot;
     }
 
 abbrev pub with_funds : UistBroker → Funds → UistBroker
@@ -78,9 +64,6 @@ no_events = replicate 256 (event_of blank_order 0)
 pub record SendsFit (c : Counts) : Type 0 where
   pub places : c.resting + c.waits ≤ 1024
   pub rows : c.taken ≤ c.room
-
-unfoldable pub send_all_of : UistBroker → List Order → SentAll
-send_all_of b l = record { broker = sent_all b l; events = over (events_of b l) no_events }
 
 -- 16, then the order's own event
 unfoldable pub send_of : UistBroker → Order → Sent

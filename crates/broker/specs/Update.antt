@@ -34,10 +34,6 @@ plan_after b w = plan_of (money_of b.portfolio) w
 unfoldable pub weighed_by : UistBroker → List Weight → UistBroker
 weighed_by b w = sent_all b (plan_after b w).orders
 
--- a refusal: the state as it was, and the trades of the check's tick
-abbrev pub update_refused : UistBroker → Table → ℕ → Updated
-update_refused b t n = record { broker = b; trades = (tick_of b.exchange t).trades; count = 0; first = 0; events = no_events; sent = 0; total = zero64; fault = n }
-
 -- n is the number drawn before it acts; then the plan's, with which the check stands
 pub record Updates (b : UistBroker) (t f : Table) (w : Weights) (x : Lengths) (n : ℕ) (r : Updated) : Type 0 where
   pub before : n ≡ update_fault b x t.fault f.fault w.fault

@@ -7,8 +7,9 @@ ghost use Rattle.broker.specs.Build.{builder_tests, no_broker, build_of};
 
 use crate::state::UistBroker;
 use costs::{BrokerCost, TradeCosts};
-use exchange::state::{Counts, UistV1};
+use exchange::state::UistV1;
 use floats::lot;
+use market::fault;
 use market::table::{ReadTable, Table};
 use portfolio::state::{Funds, Portfolio};
 
@@ -24,13 +25,14 @@ fn is_finite(cost: BrokerCost) -> bool
     ensures { result ≡ is_finite cost }
 {
     match cost {
-        BrokerCost::PerShare(x) => floats::finite(x),
-        BrokerCost::PctOfValue(x) => floats::finite(x),
-        BrokerCost::Flat(x) => floats::finite(x),
+        BrokerCost::PerShare(x) | BrokerCost::PctOfValue(x) | BrokerCost::Flat(x) => {
+            floats::finite(x)
+        }
     }
 }
 
 // 14, 17 for a lot outside its range, then 2 for a cost, or 0.
+#[tactic(auto, unfolding(market::specs::Faults::drawn))]
 fn builder_fault(costs: TradeCosts, lot: u32) -> u32
     ensures { result ≡ drawn (builder_tests costs.count lot (costs_of costs)) }
 {
@@ -40,83 +42,54 @@ fn builder_fault(costs: TradeCosts, lot: u32) -> u32
     if !lot::is_lot(lot) {
         return 17;
     }
-    let n = costs.count;
-    let mut i: usize = 0;
-    while i < n {
-        let c = costs.list[i];
-        let cost = c.cost;
-        if !is_finite(cost) {
+    for cost in costs.costs() {
+        if !is_finite(*cost) {
             return 2;
         }
-        i = i + 1;
     }
     0
 }
 
 // A broker whose every call draws 16.
+#[tactic(auto, unfolding(exchange::specs::State::fresh, crate::specs::Build::no_broker))]
 fn no_broker() -> UistBroker
     ensures { result ≡ no_broker }
 {
-    let fresh = UistV1::new(0);
-    let book = fresh.book;
-    let counts = Counts {
-        resting: 0,
-        waits: 0,
-        ids: 1,
-        taken: 0,
-        logged: 0,
-        room: 0,
-    };
-    let exchange = UistV1 {
-        book: book,
-        counts: counts,
-    };
-    let latest = Table::empty();
-    let funds = Funds::none();
-    let costs = TradeCosts::none();
-    let portfolio = Portfolio {
-        latest: latest,
-        funds: funds,
-        costs: costs,
-        lot: 0,
-    };
+    let mut exchange = UistV1::new(0);
+    exchange.counts.ids = 1;
     UistBroker {
-        exchange: exchange,
-        portfolio: portfolio,
+        exchange,
+        portfolio: Portfolio {
+            latest: Table::empty(),
+            funds: Funds::none(),
+            costs: TradeCosts::none(),
+            lot: 0,
+        },
     }
 }
 
 impl UistBroker {
     // A fresh broker for a log of `room` rows; the table's rows are the first latest quotes.
+    #[tactic(auto, unfolding(crate::specs::Build::build_of))]
     pub fn build(costs: TradeCosts, lot: u32, first: ReadTable, room: u64) -> Built
         ensures { result ≡ build_of costs lot first.table room }
     {
-        let latest = first.table();
-        let fault = builder_fault(costs, lot);
+        let fault = fault::first(builder_fault(costs, lot), first.fault());
         if fault != 0 {
             return Built {
                 broker: no_broker(),
-                fault: fault,
+                fault,
             };
         }
-        if latest.fault != 0 {
-            return Built {
-                broker: no_broker(),
-                fault: latest.fault,
-            };
-        }
-        let exchange = UistV1::new(room);
-        let funds = Funds::none();
-        let portfolio = Portfolio {
-            latest: latest,
-            funds: funds,
-            costs: costs,
-            lot: lot,
-        };
         Built {
             broker: UistBroker {
-                exchange: exchange,
-                portfolio: portfolio,
+                exchange: UistV1::new(room),
+                portfolio: Portfolio {
+                    latest: first.table(),
+                    funds: Funds::none(),
+                    costs,
+                    lot,
+                },
             },
             fault: 0,
         }

@@ -8,68 +8,36 @@ use crate::state::UistBroker;
 use account::BrokerCashEvent;
 use portfolio::liquidate;
 
-// What a liquidation comes to: the new state, whether it succeeded, and how many sells it queued.
-#[derive(Clone, Copy)]
-pub struct Liquidated {
-    pub broker: UistBroker,
-    pub done: bool,
-    pub queued: usize,
-}
-
 impl UistBroker {
-    // Liquidates in a broker that does not draw 16; refusals of its orders are not reported.
-    pub(crate) fn liquidate(self, amount: f64) -> Liquidated
-        requires { SendsFit self.exchange.counts }
-        ensures { Liquidates self amount result }
+    // Liquidates in a broker that does not draw 16; refusals of its orders are not reported. How many
+    // sells it queued, where it succeeds.
+    #[tactic(auto, using(crate::proofs::Selling::sales_few), unfolding(account::specs::Account::debit_of, crate::specs::Liquidate::liquidated_by))]
+    pub(crate) fn liquidate(&mut self, amount: f64) -> Option<usize>
+        requires { SendsFit self.old.exchange.counts }
+        ensures { Liquidates self.old amount self.new result }
     {
-        let portfolio = self.portfolio;
-        let funds = portfolio.funds;
-        let sales = liquidate::sales_for(portfolio, amount);
-        if sales.found {
-            let list = sales.list;
-            let broker = self.queue_all(list);
-            let after = broker.exchange;
-            let before = self.exchange;
-            return Liquidated {
-                broker: broker,
-                done: true,
-                queued: (after.counts.taken - before.counts.taken) as usize,
-            };
-        }
-        let moved = account::debited(funds.cash, amount);
-        Liquidated {
-            broker: self.with_cash(moved.cash),
-            done: false,
-            queued: 0,
+        match liquidate::sales_for(self.portfolio, amount) {
+            Some(sales) => Some(self.queue_all(sales.orders())),
+            None => {
+                let moved = account::debited(self.portfolio.funds.cash, amount);
+                self.portfolio.funds.cash = moved.cash;
+                None
+            }
         }
     }
 
-    pub fn withdraw_cash_with_liquidation(self, cash: f64) -> CashMoved
+    #[tactic(auto, unfolding(market::specs::Faults::drawn, crate::specs::Cash::amount_refusal, crate::specs::Liquidate::liquidate_of))]
+    pub fn withdraw_cash_with_liquidation(mut self, cash: f64) -> CashMoved
         ensures { MovesCash (liquidate_of self cash) (liquidate_tests self cash) cash result }
     {
-        if self.fault() != 0 {
-            return CashMoved {
-                broker: self,
-                event: BrokerCashEvent::Broken(cash),
-            };
-        }
-        if !floats::finite(cash) {
-            return CashMoved {
-                broker: self,
-                event: BrokerCashEvent::NotFinite(cash),
-            };
-        }
-        let x = self.liquidate(cash);
-        let broker = x.broker;
-        if x.done {
-            return CashMoved {
-                broker: broker,
-                event: BrokerCashEvent::WithdrawSuccess(cash),
-            };
-        }
+        let event = match self.amount_refusal(cash) {
+            Some(refusal) => refusal,
+            None if self.liquidate(cash).is_some() => BrokerCashEvent::WithdrawSuccess(cash),
+            None => BrokerCashEvent::WithdrawFailure(cash),
+        };
         CashMoved {
-            broker: broker,
-            event: BrokerCashEvent::WithdrawFailure(cash),
+            broker: self,
+            event,
         }
     }
 }

@@ -5,11 +5,11 @@ ghost use Rattle.std.specs.Prelude.{◌≡◌};
 ghost use Rattle.broker.specs.Lender.{broker_fault};
 ghost use Rattle.broker.specs.Read.{symbol_fault, amounts_fault, ReadsQuote, ReadsAmount, ReadsState, read_float, read_count, read_impact, quote_of, holding_of, pending_of, value_here, value_sold, total_of, liquidation_of, cash_here, impact_of, costs_here};
 
+use crate::lender::unless_drawn;
 use crate::state::UistBroker;
 use costs::Impact;
+use market::quote::Quote;
 use portfolio::value;
-use portfolio::value::Amount;
-use sender::Latest;
 
 #[derive(Clone, Copy)]
 pub enum BrokerState {
@@ -19,13 +19,13 @@ pub enum BrokerState {
 
 #[derive(Clone, Copy)]
 pub struct QuoteRead {
-    pub latest: Latest,
+    pub quote: Option<Quote>,
     pub fault: u32,
 }
 
 #[derive(Clone, Copy)]
 pub struct AmountRead {
-    pub amount: Amount,
+    pub amount: Option<f64>,
     pub fault: u32,
 }
 
@@ -53,25 +53,21 @@ pub struct ImpactRead {
     pub fault: u32,
 }
 
+#[tactic(auto, unfolding(crate::specs::Read::read_float))]
 fn float_read(value: f64, fault: u32) -> FloatRead
     ensures { result ≡ read_float value fault }
 {
-    if fault != 0 {
-        return FloatRead {
-            value: 0.0,
-            fault: fault,
-        };
-    }
     FloatRead {
-        value: value,
-        fault: fault,
+        value: unless_drawn(fault, value, 0.0),
+        fault,
     }
 }
 
 impl UistBroker {
     // 16, 1, or 0.
-    fn symbol_fault(self, symbol: u32) -> u32
-        ensures { result ≡ symbol_fault self symbol }
+    #[tactic(auto, unfolding(market::specs::Faults::drawn, crate::specs::Read::symbol_fault))]
+    fn symbol_fault(&self, symbol: u32) -> u32
+        ensures { result ≡ symbol_fault self.now symbol }
     {
         let fault = self.fault();
         if fault != 0 {
@@ -81,43 +77,39 @@ impl UistBroker {
     }
 
     // 16, 2, or 0.
-    fn amounts_fault(self, x: f64, y: f64) -> u32
-        ensures { result ≡ amounts_fault self x y }
+    #[tactic(auto, unfolding(market::specs::Faults::drawn, crate::specs::Read::amounts_fault))]
+    fn amounts_fault(&self, x: f64, y: f64) -> u32
+        ensures { result ≡ amounts_fault self.now x y }
     {
         let fault = self.fault();
         if fault != 0 {
             return fault;
         }
-        if !floats::finite(x) {
-            return 2;
+        if floats::finite(x) && floats::finite(y) {
+            0
+        } else {
+            2
         }
-        if !floats::finite(y) { 2 } else { 0 }
+    }
+
+    fn amount_read(&self, symbol: u32, amount: Option<f64>) -> AmountRead
+        ensures { ReadsAmount amount (symbol_fault self.now symbol) result }
+    {
+        let fault = self.symbol_fault(symbol);
+        AmountRead {
+            amount: unless_drawn(fault, amount, None),
+            fault,
+        }
     }
 
     // The latest quote of a symbol.
     pub fn get_quote(self, symbol: u32) -> QuoteRead
         ensures { ReadsQuote (quote_of self symbol) (symbol_fault self symbol) result }
     {
-        let portfolio = self.portfolio;
-        let latest = portfolio.latest;
         let fault = self.symbol_fault(symbol);
-        if fault != 0 {
-            return QuoteRead {
-                latest: Latest::Unquoted,
-                fault: fault,
-            };
-        }
-        let at = symbol as usize;
-        if latest.present[at] {
-            let q = latest.rows[at];
-            return QuoteRead {
-                latest: Latest::At(q),
-                fault: 0,
-            };
-        }
         QuoteRead {
-            latest: Latest::Unquoted,
-            fault: 0,
+            quote: unless_drawn(fault, self.portfolio.latest.row(symbol), None),
+            fault,
         }
     }
 
@@ -125,170 +117,95 @@ impl UistBroker {
     pub fn get_position_qty(self, symbol: u32) -> AmountRead
         ensures { ReadsAmount (holding_of self symbol) (symbol_fault self symbol) result }
     {
-        let portfolio = self.portfolio;
-        let funds = portfolio.funds;
-        let fault = self.symbol_fault(symbol);
-        if fault != 0 {
-            return AmountRead {
-                amount: Amount::Missing,
-                fault: fault,
-            };
-        }
-        let at = symbol as usize;
-        let holding = funds.holding[at];
-        if holding == 0.0 {
-            return AmountRead {
-                amount: Amount::Missing,
-                fault: 0,
-            };
-        }
-        AmountRead {
-            amount: Amount::Of(holding),
-            fault: 0,
-        }
+        let holding = self.portfolio.funds.holding_of(symbol);
+        let held = if holding == 0.0 { None } else { Some(holding) };
+        self.amount_read(symbol, held)
     }
 
     // The pending quantity of a symbol.
     pub fn get_pending_order(self, symbol: u32) -> AmountRead
         ensures { ReadsAmount (pending_of self symbol) (symbol_fault self symbol) result }
     {
-        let portfolio = self.portfolio;
-        let funds = portfolio.funds;
-        let fault = self.symbol_fault(symbol);
-        if fault != 0 {
-            return AmountRead {
-                amount: Amount::Missing,
-                fault: fault,
-            };
-        }
-        let at = symbol as usize;
-        if funds.awaited[at] {
-            return AmountRead {
-                amount: Amount::Of(funds.pending[at]),
-                fault: 0,
-            };
-        }
-        AmountRead {
-            amount: Amount::Missing,
-            fault: 0,
-        }
+        let pending = if symbol < 256 {
+            self.portfolio.funds.pending[symbol as usize]
+        } else {
+            None
+        };
+        self.amount_read(symbol, pending)
     }
 
     // The value of a position.
     pub fn get_position_value(self, symbol: u32) -> AmountRead
         ensures { ReadsAmount (value_here self symbol) (symbol_fault self symbol) result }
     {
-        let portfolio = self.portfolio;
-        let latest = portfolio.latest;
-        let funds = portfolio.funds;
-        let fault = self.symbol_fault(symbol);
-        if fault != 0 {
-            return AmountRead {
-                amount: Amount::Missing,
-                fault: fault,
-            };
-        }
-        let at = symbol as usize;
-        let q = latest.rows[at];
-        AmountRead {
-            amount: value::value_at(latest.present[at], q, funds.holding[at]),
-            fault: 0,
-        }
+        self.amount_read(symbol, self.portfolio.value_of(symbol))
     }
 
     // What the broker's costs leave of a position's value in a sale.
     pub fn get_position_liquidation_value(self, symbol: u32) -> AmountRead
         ensures { ReadsAmount (value_sold self symbol) (symbol_fault self symbol) result }
     {
-        let portfolio = self.portfolio;
-        let x = self.get_position_value(symbol);
-        let a = x.amount;
-        AmountRead {
-            amount: value::sold(portfolio.costs, a),
-            fault: x.fault,
-        }
+        let value = self.portfolio.value_of(symbol);
+        self.amount_read(symbol, value::sold(self.portfolio.costs, value))
     }
 
     pub fn get_total_value(self) -> FloatRead
         ensures { result ≡ read_float (total_of self) (broker_fault self) }
     {
-        let portfolio = self.portfolio;
-        float_read(portfolio.get_total_value(), self.fault())
+        float_read(self.portfolio.get_total_value(), self.fault())
     }
 
     pub fn get_liquidation_value(self) -> FloatRead
         ensures { result ≡ read_float (liquidation_of self) (broker_fault self) }
     {
-        let portfolio = self.portfolio;
-        float_read(portfolio.get_liquidation_value(), self.fault())
+        float_read(self.portfolio.get_liquidation_value(), self.fault())
     }
 
     pub fn get_cash_balance(self) -> FloatRead
         ensures { result ≡ read_float (cash_here self) (broker_fault self) }
     {
-        let portfolio = self.portfolio;
-        let funds = portfolio.funds;
-        float_read(funds.cash, self.fault())
+        float_read(self.portfolio.funds.cash, self.fault())
     }
 
     pub fn get_broker_state(self) -> StateRead
         ensures { ReadsState self.portfolio.funds.failed (broker_fault self) result }
     {
-        let portfolio = self.portfolio;
-        let funds = portfolio.funds;
-        let fault = self.fault();
-        if funds.failed {
-            return StateRead {
-                state: BrokerState::Failed,
-                fault: fault,
-            };
-        }
         StateRead {
-            state: BrokerState::Ready,
-            fault: fault,
+            state: if self.portfolio.funds.failed {
+                BrokerState::Failed
+            } else {
+                BrokerState::Ready
+            },
+            fault: self.fault(),
         }
     }
 
     // How many trades are in the log.
+    #[tactic(auto, unfolding(crate::specs::Read::read_count))]
     pub fn executed_trade_count(self) -> CountRead
         ensures { result ≡ read_count self.exchange.counts.logged (broker_fault self) }
     {
-        let exchange = self.exchange;
-        let counts = exchange.counts;
         let fault = self.fault();
-        if fault != 0 {
-            return CountRead {
-                count: 0,
-                fault: fault,
-            };
-        }
         CountRead {
-            count: counts.logged,
-            fault: 0,
+            count: unless_drawn(fault, self.exchange.counts.logged, 0),
+            fault,
         }
     }
 
     // What the broker's costs leave of a budget and a price.
+    #[tactic(auto, unfolding(crate::specs::Read::read_impact))]
     pub fn trade_impact_total(self, gross_budget: f64, gross_price: f64, is_buy: bool) -> ImpactRead
         ensures { result ≡ read_impact (impact_of self gross_budget gross_price is_buy) (amounts_fault self gross_budget gross_price) }
     {
-        let portfolio = self.portfolio;
-        let costs = portfolio.costs;
         let fault = self.amounts_fault(gross_budget, gross_price);
-        if fault != 0 {
-            let none = Impact {
-                budget: 0.0,
-                price: 0.0,
-            };
-            return ImpactRead {
-                impact: none,
-                fault: fault,
-            };
-        }
-        let net = costs::net_of_costs(costs, gross_budget, gross_price, is_buy);
+        let net = costs::net_of_costs(self.portfolio.costs, gross_budget, gross_price, is_buy);
+        let none = Impact {
+            budget: 0.0,
+            price: 0.0,
+        };
         ImpactRead {
-            impact: net,
-            fault: 0,
+            impact: unless_drawn(fault, net, none),
+            fault,
         }
     }
 
@@ -296,9 +213,7 @@ impl UistBroker {
     pub fn calculate_trade_costs(self, quantity: f64, value: f64) -> FloatRead
         ensures { result ≡ read_float (costs_here self quantity value) (amounts_fault self quantity value) }
     {
-        let portfolio = self.portfolio;
-        let costs = portfolio.costs;
         let fault = self.amounts_fault(quantity, value);
-        float_read(costs::charges(costs, quantity, value), fault)
+        float_read(costs::charges(self.portfolio.costs, quantity, value), fault)
     }
 }

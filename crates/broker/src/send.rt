@@ -1,13 +1,11 @@
 // Sends: an order goes to the exchange, and pending moves.
-ghost use Rattle.std.specs.Prelude.{◌≡◌};
-ghost use Rattle.portfolio.specs.Lists.{listed};
-ghost use Rattle.broker.specs.Send.{with_pending, no_events, SendsFit, sent_all, send_all_of, send_of, insert_of, delete_of};
+ghost use Rattle.std.specs.Prelude.{◌≡◌, ◌≤◌, length};
+ghost use Rattle.lists.specs.Lists.{over};
+ghost use Rattle.broker.specs.Send.{no_events, SendsFit, event_for, sent_one, sent_all, events_of, send_of, insert_of, delete_of};
 
 use crate::state::UistBroker;
-use exchange::state::{Booked, UistV1};
+use exchange::state::Booked;
 use market::order::{Order, OrderEvent};
-use portfolio::list::OrderList;
-use portfolio::state::{Funds, Portfolio};
 use sender;
 use sender::AtSymbol;
 
@@ -24,36 +22,7 @@ pub struct BrokerDeleted {
     pub fault: u32,
 }
 
-// The new state, and the events of the orders sent in the first places.
-#[derive(Clone, Copy)]
-pub struct SentAll {
-    pub broker: UistBroker,
-    pub events: [OrderEvent; 256],
-}
-
-// A portfolio with other pending quantities.
-fn expecting(p: Portfolio, pending: [f64; 256], awaited: [bool; 256]) -> Portfolio
-    ensures { result ≡ with_pending p pending awaited }
-{
-    let latest = p.latest;
-    let f = p.funds;
-    let holding = f.holding;
-    let costs = p.costs;
-    let funds = Funds {
-        holding: holding,
-        pending: pending,
-        awaited: awaited,
-        cash: f.cash,
-        failed: f.failed,
-    };
-    Portfolio {
-        latest: latest,
-        funds: funds,
-        costs: costs,
-        lot: p.lot,
-    }
-}
-
+#[tactic(auto, unfolding(crate::specs::Send::no_events))]
 pub(crate) fn no_events() -> [OrderEvent; 256]
     ensures { result ≡ no_events }
 {
@@ -63,157 +32,89 @@ pub(crate) fn no_events() -> [OrderEvent; 256]
 }
 
 impl UistBroker {
-    // Sends the listed orders one after the other. The arrays that change stand in variables of their
-    // own: each is then copied once, and not with all the state.
-    pub(crate) fn send_all(self, list: OrderList) -> SentAll
-        requires { SendsFit self.exchange.counts }
-        ensures { result ≡ send_all_of self (listed list) }
+    // Sends one order: where it is taken it waits on the exchange, and pending moves. It works in
+    // place and is inlined, since a broker by value would be copied at each order, and at a call that
+    // is not inlined once more. `SendsFit` is asked for and is no type's invariant: whoever made a
+    // value of that type would have to prove it just the same.
+    #[tactic(auto, using(crate::proofs::Sending::event_here, crate::proofs::Sending::fits_here), unfolding(crate::specs::Send::sent_one, exchange::specs::Insert::join_of))]
+    #[inline(always)]
+    fn send_one(&mut self, o: Order) -> OrderEvent
+        requires { SendsFit self.old.exchange.counts }
+        ensures event { result ≡ event_for self.old o }
+        ensures broker { self.new ≡ sent_one self.old o }
     {
-        let exchange = self.exchange;
-        let portfolio = self.portfolio;
-        let latest = portfolio.latest;
-        let funds = portfolio.funds;
-        let mut book = exchange.book;
-        let mut counts = exchange.counts;
-        let mut pending = funds.pending;
-        let mut awaited = funds.awaited;
+        let at = (o.symbol % 256) as usize;
+        let x = AtSymbol {
+            quote: self.portfolio.latest.rows[at],
+            holding: self.portfolio.funds.holding[at],
+        };
+        let failed = self.portfolio.funds.failed;
+        let cash = self.portfolio.funds.cash;
+        let counts = self.exchange.counts;
+        let e = sender::send_event(o, failed, cash, x, counts);
+        if e.fault != 0 {
+            return e;
+        }
+        let join = counts.join();
+        self.exchange.book[join.at] = Booked::waiting(o);
+        self.exchange.counts = join.counts;
+        let pending = sender::pending_after(o, self.portfolio.funds.pending[at]);
+        self.portfolio.funds.pending[at] = Some(pending);
+        e
+    }
+
+    // Sends orders one after the other. Their events, in the first places.
+    #[tactic(auto, using(crate::proofs::Sending::sent_next, crate::proofs::Sending::told_next, crate::proofs::Sending::sent_fits), unfolding(crate::specs::Send::events_of))]
+    pub(crate) fn send_all(&mut self, orders: &[Order]) -> [OrderEvent; 256]
+        requires fits { SendsFit self.old.exchange.counts }
+        requires few { length orders.now ≤ 256 }
+        ensures broker { self.new ≡ sent_all self.old orders.now }
+        ensures events { result ≡ over (events_of self.old orders.now) no_events }
+    {
         let mut events = no_events();
-        let mut i: usize = 0;
-        while i < 256 {
-            if i >= list.count {
-                break;
-            }
-            let o = list.orders[i];
-            let at = (o.symbol % 256) as usize;
-            let q = latest.rows[at];
-            let x = AtSymbol {
-                present: latest.present[at],
-                quote: q,
-                holding: funds.holding[at],
-            };
-            let e = sender::send_event(o, funds.failed, funds.cash, x, counts);
-            if e.fault == 0 {
-                let join = counts.join();
-                let place = join.at;
-                book[place] = Booked::waiting(o);
-                counts = join.counts;
-                pending[at] = sender::pending_after(o, awaited[at], pending[at]);
-                awaited[at] = true;
-            }
-            events[i] = e;
-            i = i + 1;
+        for (i, o) in orders.iter().enumerate() {
+            events[i] = self.send_one(*o);
         }
-        let moved = expecting(portfolio, pending, awaited);
-        SentAll {
-            broker: UistBroker {
-                exchange: UistV1 {
-                    book: book,
-                    counts: counts,
-                },
-                portfolio: moved,
-            },
-            events: events,
-        }
+        events
     }
 
-    // The same for the sales of a liquidation, whose events nobody asks for. A second function, since a
-    // call of the one above by two callers would copy all the state twice.
-    pub(crate) fn queue_all(self, list: OrderList) -> UistBroker
-        requires { SendsFit self.exchange.counts }
-        ensures { result ≡ sent_all self (listed list) }
+    // Sends the sales of a liquidation, whose events nobody asks for. How many are taken.
+    #[tactic(auto, using(crate::proofs::Sending::sent_next, crate::proofs::Sending::sent_fits))]
+    pub(crate) fn queue_all(&mut self, orders: &[Order]) -> usize
+        requires { SendsFit self.old.exchange.counts }
+        ensures broker { self.new ≡ sent_all self.old orders.now }
+        ensures few { result ≤ length orders.now }
     {
-        let exchange = self.exchange;
-        let portfolio = self.portfolio;
-        let latest = portfolio.latest;
-        let funds = portfolio.funds;
-        let mut book = exchange.book;
-        let mut counts = exchange.counts;
-        let mut pending = funds.pending;
-        let mut awaited = funds.awaited;
-        let mut i: usize = 0;
-        while i < 256 {
-            if i >= list.count {
-                break;
+        let mut taken = 0;
+        for o in orders {
+            if self.send_one(*o).fault == 0 {
+                taken += 1;
             }
-            let o = list.orders[i];
-            let at = (o.symbol % 256) as usize;
-            let q = latest.rows[at];
-            let x = AtSymbol {
-                present: latest.present[at],
-                quote: q,
-                holding: funds.holding[at],
-            };
-            let e = sender::send_event(o, funds.failed, funds.cash, x, counts);
-            if e.fault == 0 {
-                let join = counts.join();
-                let place = join.at;
-                book[place] = Booked::waiting(o);
-                counts = join.counts;
-                pending[at] = sender::pending_after(o, awaited[at], pending[at]);
-                awaited[at] = true;
-            }
-            i = i + 1;
         }
-        let moved = expecting(portfolio, pending, awaited);
-        UistBroker {
-            exchange: UistV1 {
-                book: book,
-                counts: counts,
-            },
-            portfolio: moved,
-        }
+        taken
     }
 
-    pub fn send_order(self, order: Order) -> Sent
+    #[tactic(auto, unfolding(market::specs::Faults::drawn, crate::specs::Send::send_of))]
+    pub fn send_order(mut self, order: Order) -> Sent
         ensures { result ≡ send_of self order }
     {
-        let exchange = self.exchange;
-        let portfolio = self.portfolio;
-        let latest = portfolio.latest;
-        let funds = portfolio.funds;
-        let mut counts = exchange.counts;
-        let at = (order.symbol % 256) as usize;
-        let q = latest.rows[at];
-        let x = AtSymbol {
-            present: latest.present[at],
-            quote: q,
-            holding: funds.holding[at],
+        let fault = self.fault();
+        let event = if fault != 0 {
+            sender::event(order, fault)
+        } else {
+            self.send_one(order)
         };
-        let e = sender::sound_event(self.fault(), order, funds.failed, funds.cash, x, counts);
-        if e.fault != 0 {
-            return Sent {
-                broker: self,
-                event: e,
-            };
-        }
-        let mut book = exchange.book;
-        let mut pending = funds.pending;
-        let mut expected = funds.awaited;
-        let join = counts.join();
-        let place = join.at;
-        book[place] = Booked::waiting(order);
-        counts = join.counts;
-        pending[at] = sender::pending_after(order, expected[at], pending[at]);
-        expected[at] = true;
-        let moved = expecting(portfolio, pending, expected);
         Sent {
-            broker: UistBroker {
-                exchange: UistV1 {
-                    book: book,
-                    counts: counts,
-                },
-                portfolio: moved,
-            },
-            event: e,
+            broker: self,
+            event,
         }
     }
 
     // A direct insertion: pending is kept.
+    #[tactic(auto, unfolding(market::specs::Faults::drawn, crate::specs::Send::insert_of))]
     pub fn insert_order(self, order: Order) -> Sent
         ensures { result ≡ insert_of self order }
     {
-        let exchange = self.exchange;
-        let portfolio = self.portfolio;
         let fault = self.fault();
         if fault != 0 {
             return Sent {
@@ -221,35 +122,32 @@ impl UistBroker {
                 event: sender::event(order, fault),
             };
         }
-        let inserted = exchange.insert_order(order);
-        let moved = inserted.exchange;
+        let inserted = self.exchange.insert_order(order);
         Sent {
             broker: UistBroker {
-                exchange: moved,
-                portfolio: portfolio,
+                exchange: inserted.exchange,
+                ..self
             },
             event: sender::event(order, inserted.fault),
         }
     }
 
+    #[tactic(auto, unfolding(market::specs::Faults::drawn, crate::specs::Send::delete_of))]
     pub fn delete_order(self, order_id: u64) -> BrokerDeleted
         ensures { result ≡ delete_of self order_id }
     {
-        let exchange = self.exchange;
-        let portfolio = self.portfolio;
         let fault = self.fault();
         if fault != 0 {
             return BrokerDeleted {
                 broker: self,
-                fault: fault,
+                fault,
             };
         }
-        let deleted = exchange.delete_order(order_id);
-        let moved = deleted.exchange;
+        let deleted = self.exchange.delete_order(order_id);
         BrokerDeleted {
             broker: UistBroker {
-                exchange: moved,
-                portfolio: portfolio,
+                exchange: deleted.exchange,
+                ..self
             },
             fault: deleted.fault,
         }

@@ -1,11 +1,8 @@
 // An update: a check, the walk over weights, and the sends of its orders.
-ghost use Rattle.std.specs.Prelude.{◌≡◌, length};
-ghost use Rattle.market.specs.Faults.{unless_drawn};
-ghost use Rattle.market.specs.Orders.{zero64};
-ghost use Rattle.portfolio.specs.Lists.{listed};
-ghost use Rattle.broker.specs.Update.{update_fault, update_refused, Updates};
+ghost use Rattle.std.specs.Prelude.{◌≡◌};
+ghost use Rattle.broker.specs.Update.{update_fault, Updates};
 
-use crate::lender::list_fault;
+use crate::lender::{list_fault, unless_drawn};
 use crate::send;
 use crate::state::UistBroker;
 use market::fault;
@@ -13,7 +10,6 @@ use market::order::OrderEvent;
 use market::table::ReadTable;
 use market::trade::Trade;
 use market::weight::Weights;
-use portfolio::list::OrderList;
 
 // How long the lent lists are: the log, the list for events, and the rows of weights.
 #[derive(Clone, Copy)]
@@ -38,48 +34,32 @@ pub struct Updated {
     pub fault: u32,
 }
 
-// How many orders a list holds.
-pub(crate) fn listed_count(list: OrderList) -> usize
-    ensures { result ≡ length (listed list) }
-{
-    if list.count < 256 { list.count } else { 256 }
-}
-
-// The total value, or 0.0 where a number is drawn.
-fn total_unless(fault: u32, total: f64) -> f64
-    ensures { result ≡ unless_drawn fault total zero64 }
-{
-    if fault != 0 { 0.0 } else { total }
-}
-
 impl UistBroker {
-    // Nothing is changed; the trades are those of the check's tick.
-    fn refused_update(
-        self,
-        tradable: ReadTable,
-        fetched: ReadTable,
-        log_length: usize,
-        fault: u32,
-    ) -> Updated
-        ensures { result ≡ update_refused self tradable.table fault }
+    // 16, 15, then the numbers of the rows, or 0.
+    #[tactic(auto, unfolding(crate::specs::Update::update_fault))]
+    fn update_fault(
+        &self,
+        tradable: &ReadTable,
+        fetched: &ReadTable,
+        weights: &Weights,
+        x: Lengths,
+    ) -> u32
+        ensures { result ≡ update_fault self.now x tradable.now.table.fault fetched.now.table.fault weights.now.fault }
     {
-        let checked = self.check(tradable, fetched, log_length);
-        let trades = checked.trades;
-        let events = send::no_events();
-        Updated {
-            broker: self,
-            trades: trades,
-            count: 0,
-            first: 0,
-            events: events,
-            sent: 0,
-            total: 0.0,
-            fault: fault,
-        }
+        let rows = fault::first(
+            tradable.fault(),
+            fault::first(fetched.fault(), weights.fault()),
+        );
+        fault::first(
+            self.fault_for(x.log),
+            fault::first(list_fault(x.weights, x.events), rows),
+        )
     }
 
-    // An update on tables and weights that were read. Past the refusals there is one way through, with
-    // 13, 18 or neither: a return between would cost copies of all the state.
+    // An update on tables and weights that were read. One that is refused changes nothing, and its
+    // trades are those of the check's tick. Past the refusals there is one way through, with 13, 18 or
+    // neither: a return between would cost copies of all the state.
+    #[tactic(auto, using(crate::proofs::Updating::check_draws_none, crate::proofs::Updating::sends_fit), unfolding(crate::specs::Update::weighed_by))]
     pub fn update(
         self,
         tradable: ReadTable,
@@ -89,34 +69,35 @@ impl UistBroker {
     ) -> Updated
         ensures { Updates self tradable.table fetched.table weights x (update_fault self x tradable.table.fault fetched.table.fault weights.fault) result }
     {
-        let rows = fault::first(
-            tradable.fault(),
-            fault::first(fetched.fault(), weights.fault()),
-        );
-        let fault = fault::first(
-            self.fault_for(x.log),
-            fault::first(list_fault(x.weights, x.events), rows),
-        );
-        if fault != 0 {
-            return self.refused_update(tradable, fetched, x.log, fault);
-        }
-        let checked = self.check(tradable, fetched, x.log);
-        let b = checked.broker;
-        let portfolio = b.portfolio;
-        let plan = portfolio.diff_against_target_weights(weights);
-        let list = plan.list;
-        let sent = b.send_all(list);
-        let moved = sent.broker;
-        let written = sent.events;
+        let fault = self.update_fault(&tradable, &fetched, &weights, x);
+        let mut checked = self.check(tradable, fetched, x.log);
         let trades = checked.trades;
+        if fault != 0 {
+            let events = send::no_events();
+            return Updated {
+                broker: self,
+                trades,
+                count: 0,
+                first: 0,
+                events,
+                sent: 0,
+                total: 0.0,
+                fault,
+            };
+        }
+        let portfolio = &checked.broker.portfolio;
+        let plan = portfolio.diff_against_target_weights(weights);
+        let total = unless_drawn(plan.fault, portfolio.get_total_value(), 0.0);
+        let orders = plan.list.orders();
+        let events = checked.broker.send_all(orders);
         Updated {
-            broker: moved,
-            trades: trades,
+            broker: checked.broker,
+            trades,
             count: checked.count,
             first: checked.first,
-            events: written,
-            sent: listed_count(list),
-            total: total_unless(plan.fault, portfolio.get_total_value()),
+            events,
+            sent: orders.len(),
+            total,
             fault: plan.fault,
         }
     }

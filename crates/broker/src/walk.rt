@@ -1,8 +1,8 @@
 // The walk over weights alone, with its numbers.
 ghost use Rattle.broker.specs.Walk.{Walks};
 
+use crate::lender::unless_drawn;
 use crate::state::UistBroker;
-use crate::update::listed_count;
 use market::fault;
 use market::order::Order;
 use market::weight::Weights;
@@ -17,17 +17,16 @@ pub struct Walked {
 
 impl UistBroker {
     // The walk on weights that were read of `rows` rows, for a list of `room` orders.
+    #[tactic(auto, unfolding(crate::specs::Walk::walk_fault))]
     pub fn diff_against_target_weights(self, weights: Weights, rows: usize, room: usize) -> Walked
         ensures { Walks self weights rows room result }
     {
-        let portfolio = self.portfolio;
         let fault = fault::first(self.lender_fault(rows, room), weights.fault());
-        let plan = portfolio.diff_against_target_weights(weights);
-        let list = plan.list;
-        let orders = list.orders;
+        let plan = self.portfolio.diff_against_target_weights(weights);
+        let orders = plan.list.orders;
         Walked {
-            orders: orders,
-            count: fault::count_unless(fault, listed_count(list)),
+            orders,
+            count: unless_drawn(fault, plan.list.orders().len(), 0),
             fault: fault::first(fault, plan.fault),
         }
     }

@@ -1,23 +1,24 @@
 -- What calls mean: of the form's test, and of the word at a place. Assumes nothing.
-use Prim.Native.Nat.{ℕ}
-use native.Mathlib.Nat.{eq-or-lt_of_le}
+use Prim.Native.Nat.{ℕ, suc}
 use native.Mathlib.Omega.{arith}
-use mathlib.Core.Path.{◌≡◌, sym, ap, ◌∙◌}
+use mathlib.Core.Path.{◌≡◌, refl, sym, ap, ◌∙◌}
 use mathlib.Core.Bool.{Bool, true, false, cond}
-use mathlib.Core.List.{List, []}
-use mathlib.Core.Logic.{⊎_elim}
-use borrow.Author.Tests.{eq-eqb, ne_eqb}
+use mathlib.Core.List.{List, [], ◌∷◌}
+use borrow.Author.Tests.{ne_eqb}
 use lib.Dec.{eqb}
 use lib.Ieee.{Float}
-use lib.ListN.{drop}
-use Rattle.words.specs.declared.word.Word.{Word}
-use Rattle.words.proofs.Words.{ordered, within, next_of, none_of, first-of, rest-of}
-use Rattle.words.specs.Words.{words_of, word_at, bytes_in, Holds, same_bytes, ascii}
+use Rattle.std.specs.declared.option.Option.{Option}
+use Rattle.std.specs.declared.option.Option.TheVariants.{None, Some}
+use Rattle.std.specs.Option.{unwrap_or}
+use lib.ListN.{length, drop}
+use Rattle.words.proofs.Words.{no-first}
+use Rattle.words.specs.Words.{words_of, same_bytes, ascii}
 use Rattle.calls.specs.declared.call.Call.{Call}
 use Rattle.calls.specs.declared.verb.Verb.{Verb}
 use Rattle.calls.specs.declared.verb.Verb.TheVariants.{Malformed}
-use Rattle.calls.specs.Lists.{is_empty, first_of, only_of, first_words, words_in}
-use Rattle.calls.specs.Calls.{Said, plainly, said_if, heard, plain_call, FirstRead, side_said, side_named, Lotted, said_built}
+use Rattle.calls.specs.Verbs.{verb_of}
+use Rattle.calls.specs.Lists.{is_empty, first_of, rest_of, only_of, first_words, words_in}
+use Rattle.calls.specs.Calls.{Said, plainly, said_if, heard, heard_or, plain_call, said_as, said, side_said, side_named, Lotted, said_built}
 
 -- ---- a form is met, or it is not
 module _ (t : Bool) (s : Said) {x : Said} where
@@ -34,29 +35,31 @@ pub plain-heard : (line : List ℕ) (v : Verb) {r : Call} → r ≡ plain_call v
 unfolding heard plain_call words_in first_words
 plain-heard line v e = ap (heard line) e
 
--- ---- the word at or after a place
-module _ (l : List ℕ) (at : ℕ) {r : Word} (e : r ≡ word_at l at) where
-  pub end_of : eqb r.from r.to ≡ is_empty (words_of (drop at l))
-  end_of =
-      ⊎_elim (λ h. eq-eqb r.from r.to h ∙ sym (ap is_empty (none_of l at e (omega arith))))
-      (λ h. ne_eqb r.from r.to (λ q. omega arith) ∙ sym (ap is_empty (next_of l at e h)))
-      (eq-or-lt_of_le (ordered l at e))
+-- a call that was read, or else one that is malformed
+pub read_or : (line : List ℕ) (o : Option Call) {d r : Call} → r ≡ unwrap_or o d → d ≡ plain_call Malformed → heard line r ≡ heard_or line o
+read_or line None e f = plain-heard line Malformed (e ∙ f)
+read_or line (Some c) e f = ap (heard line) e
 
-  -- where it is the last, and where it is not
-  module _ {t : Bool} (q : t ≡ is_empty (words_of (drop r.to l))) where
-    only-by : {b : Bool} → t ≡ b → only_of (words_of (drop at l)) ≡ cond b (first_of (words_of (drop at l))) []
-    unfolding only_of
-    only-by h = ap (λ (b : Bool). cond b (first_of (words_of (drop at l))) []) (sym (ap is_empty (rest-of l at e)) ∙ sym q ∙ h)
+-- what the line's first word and the words behind it say
+pub said-is : (line : List ℕ) {w : List ℕ} (next : ℕ) → w ≡ first_of (words_of line) → words_of (drop next line) ≡ rest_of (words_of line) → (v : Verb) → v ≡ verb_of w → said_as v (words_of (drop next line)) ≡ said (words_of line)
+unfolding said
+said-is line next e f v q = ap (said_as v) f ∙ ap (λ (u : Verb). said_as u (rest_of (words_of line))) (q ∙ ap verb_of e)
 
-    pub only_one : t ≡ true → Holds l r (only_of (words_of (drop at l)))
-    only_one h = record { ordered = ordered l at e; within = within l at e; bytes = first-of l at e ∙ sym (only-by h) }
+-- no word is left just where the first one is empty
+end-by : (ws : List (List ℕ)) → (first_of ws ≡ [] → ws ≡ []) → eqb (length (first_of ws)) 0 ≡ is_empty ws
+end-by [] h = refl
+end-by ([] ∷ ws) h = absurd (let z : ◌≡◌ {A = ℕ} 0 1 = cc (h refl) in omega arith)
+end-by ((x ∷ w) ∷ ws) h = ne_eqb (suc (length w)) 0 (λ q. omega arith)
 
-    pub not-one : t ≡ false → Holds l (record { from = 0; to = 0 }) (only_of (words_of (drop at l)))
-    not-one h = record { ordered = omega arith; within = omega arith; bytes = sym (only-by h) }
+pub end_of : (l w : List ℕ) → w ≡ first_of (words_of l) → eqb (length w) 0 ≡ is_empty (words_of l)
+end_of l w e = ap (λ (v : List ℕ). eqb (length v) 0) e ∙ end-by (words_of l) (no-first l)
 
-  -- read by f
-  pub taken : {A : Type 0} (f : List ℕ → A) {x : A} → x ≡ f (bytes_in l r) → FirstRead f (words_of (drop at l)) l x r.to
-  taken f q = record { read = q ∙ ap f (first-of l at e); rest = rest-of l at e }
+-- the only word: the first one where no other is left
+pub only-by : (l : List ℕ) {t : Bool} {w : List ℕ} {b : Bool} (m : List ℕ) → w ≡ first_of (words_of l) → words_of m ≡ rest_of (words_of l) → t ≡ is_empty (words_of m) → t ≡ b → cond b w [] ≡ only_of (words_of l)
+unfolding only_of
+only-by l {t = t} {w = w} {b = b} m e f g h =
+    ap (λ (v : List ℕ). cond b v []) e
+    ∙ ap (λ (u : Bool). cond u (first_of (words_of l)) []) (sym h ∙ g ∙ ap is_empty f)
 
 -- a side by its names
 pub side-is : (v : Verb) (budget price : Float) {w u : List ℕ} → w ≡ u → {buys sells : Bool} → buys ≡ same_bytes w (ascii "buy") → sells ≡ same_bytes w (ascii "sell") → side_said v budget price buys sells ≡ side_named v budget price u

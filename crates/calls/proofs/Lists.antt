@@ -1,13 +1,14 @@
 -- The words of a list, passed one by one, and rows read off the first words. Assumes nothing.
 use Prim.Native.Nat.{ℕ, zero, suc, ◌+◌, ◌-◌, ◌≤◌, ◌<◌, min}
-use native.Mathlib.Nat.{zero-add, add-zero, eq-or-lt_of_le}
+use native.Mathlib.Nat.{zero-add, add-zero}
 use native.Mathlib.Numerals.{add-one}
 use native.Mathlib.Omega.{arith}
 use mathlib.Core.Path.{◌≡◌, refl, sym, ap, ◌∙◌}
 use mathlib.Core.Bool.{Bool, true, false, ◌&&◌, ◌||◌, beq}
 use mathlib.Core.List.{List, [], ◌∷◌, ◌++◌, map, foldl, append-nil, append_assoc, map-append}
-use mathlib.Core.Logic.{⊎_elim}
-use mathlib.Core.Option.{Option, none}
+use mathlib.Core.Logic.{◌⊎◌, ⊎_elim, inl, inr}
+use Rattle.std.specs.declared.option.Option.{Option}
+use Rattle.std.specs.declared.option.Option.TheVariants.{None, Some}
 use borrow.Author.Tests.{le-leb, lt-leb, ne_eqb, eqb-false}
 use lib.Dec.{eqb, leb}
 use lib.ListN.{length, drop, set, replicate, length-append, length-map, length-replicate}
@@ -15,13 +16,11 @@ use lib.Seq.{drop-drop}
 use Rattle.lists.specs.Lists.{over}
 use Rattle.lists.proofs.Over.{over-more}
 use Rattle.words.specs.Numbers.{some_if}
-use Rattle.words.specs.Words.{words_of, word_at, bytes_in, same_bytes}
-use Rattle.words.specs.declared.word.Word.{Word}
-use Rattle.words.proofs.Words.{ordered, next_of, none_of, first-of, rest-of}
+use Rattle.words.specs.Words.{words_of, same_bytes}
+use Rattle.words.proofs.Words.{no-first}
 use Rattle.costs.specs.Kept.{no_costs}
 use Rattle.costs.specs.declared.TradeCosts.{TradeCosts}
 use Rattle.calls.specs.declared.list.RowKind.{RowKind}
-use Rattle.calls.specs.declared.list.SpanRead.TheVariants.{Of as Spanned}
 use Rattle.calls.specs.Lists.{Words, Listed, first_of, rest_of, first_words, is_slash, until_slash, has_slash, behind_slash, is_row, are_rows, list_of, words_in, spanned, cost_step, read_costs}
 
 -- ---- the first words
@@ -66,7 +65,7 @@ module _ (kind : RowKind) (most : ℕ) (before : Bool) where
       unfolding after until_slash has_slash behind_slash are_rows
       at-slash e h = rw (e, add-zero (length ks), le-leb (length ks) most h, append-nil ks)
 
-      too_many : is_slash w ≡ false → most ≤ length ks → none ≡ after ks (w ∷ ws)
+      too_many : is_slash w ≡ false → most ≤ length ks → None ≡ after ks (w ∷ ws)
       unfolding after until_slash has_slash behind_slash are_rows
       too_many e h =
           rw (
@@ -75,7 +74,7 @@ module _ (kind : RowKind) (most : ℕ) (before : Bool) where
             and-false (is_row kind w && are_rows kind (until_slash ws)),
           )
 
-      no_row : is_slash w ≡ false → is_row kind w ≡ false → none ≡ after ks (w ∷ ws)
+      no_row : is_slash w ≡ false → is_row kind w ≡ false → None ≡ after ks (w ∷ ws)
       unfolding after until_slash has_slash behind_slash are_rows
       no_row e h = rw (e, h)
 
@@ -107,7 +106,20 @@ not-slash : is_slash [] ≡ false
 unfolding same_bytes
 not-slash = refl
 
-module _ (line : List ℕ) (at : ℕ) (kind : RowKind) (most : ℕ) (before : Bool) (i count : ℕ) (p : Passed line at kind most before i count) {r : Word} (e : r ≡ word_at line i) (slash : Bool) (s : slash ≡ is_slash (bytes_in line r)) where
+-- the code's test that a list ends: at a slash, or where no word is left
+pub tested : (slash : Bool) {empty b : Bool} (w : List ℕ) → empty ≡ eqb (length w) 0 → (slash || empty) ≡ b → (slash || eqb (length w) 0) ≡ b
+tested slash w e t = ap (λ (v : Bool). slash || v) (sym e) ∙ t
+
+nil-or : (w : List ℕ) → (w ≡ []) ⊎ (0 < length w)
+nil-or [] = inl refl
+nil-or (x ∷ w) = inr (omega arith)
+
+some-first : (ws : Words) → (first_of ws ≡ [] → ⊥) → ws ≡ first_of ws ∷ rest_of ws
+some-first [] h = absurd (h refl)
+some-first (w ∷ ws) h = refl
+
+-- w is the first of the words at i, and the others stand at `next`
+module _ (line : List ℕ) (at : ℕ) (kind : RowKind) (most : ℕ) (before : Bool) (i count : ℕ) (p : Passed line at kind most before i count) {w : List ℕ} (next : ℕ) (e : w ≡ first_of (words_of (drop i line))) (f : words_of (drop next line) ≡ rest_of (words_of (drop i line))) (slash : Bool) (s : slash ≡ is_slash w) where
   abbrev ks : Words
   ks = first_words count (words_of (drop at line))
 
@@ -117,74 +129,85 @@ module _ (line : List ℕ) (at : ℕ) (kind : RowKind) (most : ℕ) (before : Bo
   abbrev ended : Bool → Words → Option Listed
   ended b vs = some_if (beq b before) (record { words = ks; behind = vs })
 
+  none : w ≡ [] → words_of (drop i line) ≡ []
+  none h = no-first (drop i line) (sym e ∙ h)
+
+  some : 0 < length w → words_of (drop i line) ≡ w ∷ words_of (drop next line)
+  some h =
+      some-first (words_of (drop i line)) (λ q. omega (arith, ap length (e ∙ q)))
+      ∙ ap (λ (v : List ℕ). v ∷ rest_of (words_of (drop i line))) (sym e)
+      ∙ ap (λ (vs : Words). w ∷ vs) (sym f)
+
   -- the list ends here: no word is left, or the word is a slash
-  at-line-end : r.from ≡ r.to → ended slash (words_of (drop r.to line)) ≡ list_of kind most before (words_of (drop at line))
+  at-line-end : w ≡ [] → ended slash (words_of (drop next line)) ≡ list_of kind most before (words_of (drop at line))
   at-line-end h =
-      let none = none_of line i e (omega arith) in
-      ap (λ (b : Bool). ended b (words_of (drop r.to line))) (s ∙ ap is_slash (first-of line i e ∙ ap first_of none) ∙ not-slash)
-      ∙ ap (ended false) (rest-of line i e ∙ ap rest_of none)
+      ap (λ (b : Bool). ended b (words_of (drop next line))) (s ∙ ap is_slash h ∙ not-slash)
+      ∙ ap (ended false) (f ∙ ap rest_of (none h))
       ∙ no_more kind most before ks (omega (arith, size, p.few))
-      ∙ ap (after kind most before ks) (sym none)
+      ∙ ap (after kind most before ks) (sym (none h))
       ∙ p.same
 
-  at-a-slash : slash ≡ true → r.from < r.to → ended slash (words_of (drop r.to line)) ≡ list_of kind most before (words_of (drop at line))
+  at-a-slash : slash ≡ true → 0 < length w → ended slash (words_of (drop next line)) ≡ list_of kind most before (words_of (drop at line))
   at-a-slash t h =
-      ap (λ (b : Bool). ended b (words_of (drop r.to line))) t
-      ∙ at-slash kind most before ks (bytes_in line r) (words_of (drop r.to line)) (sym s ∙ t) (omega (arith, size, p.few))
-      ∙ ap (after kind most before ks) (sym (next_of line i e h))
+      ap (λ (b : Bool). ended b (words_of (drop next line))) t
+      ∙ at-slash kind most before ks w (words_of (drop next line)) (sym s ∙ t) (omega (arith, size, p.few))
+      ∙ ap (after kind most before ks) (sym (some h))
       ∙ p.same
 
-  ends : (slash || eqb r.from r.to) ≡ true → ended slash (words_of (drop r.to line)) ≡ list_of kind most before (words_of (drop at line))
+  ends : (slash || eqb (length w) 0) ≡ true → ended slash (words_of (drop next line)) ≡ list_of kind most before (words_of (drop at line))
   ends t =
       ⊎_elim at-line-end
-      (λ h. at-a-slash (or-true slash (eqb r.from r.to) t (ne_eqb r.from r.to (λ q. omega arith))) h)
-      (eq-or-lt_of_le (ordered line i e))
+      (λ h. at-a-slash (or-true slash (eqb (length w) 0) t (ne_eqb (length w) 0 (λ q. omega arith))) h)
+      (nil-or w)
 
   -- as it should, or not
-  pub ends-well : (slash || eqb r.from r.to) ≡ true → beq slash before ≡ true → spanned line (Spanned (record { at = at; count = count; next = r.to })) ≡ list_of kind most before (words_of (drop at line))
+  pub ends-well : (slash || eqb (length w) 0) ≡ true → beq slash before ≡ true → spanned line (Some (record { at = at; count = count; next = next })) ≡ list_of kind most before (words_of (drop at line))
   unfolding spanned words_in
-  ends-well t b = ap (λ (u : Bool). some_if u (record { words = ks; behind = words_of (drop r.to line) })) (sym b) ∙ ends t
+  ends-well t b = ap (λ (u : Bool). some_if u (record { words = ks; behind = words_of (drop next line) })) (sym b) ∙ ends t
 
-  pub ends-ill : (slash || eqb r.from r.to) ≡ true → beq slash before ≡ false → none ≡ list_of kind most before (words_of (drop at line))
-  ends-ill t b = ap (λ (u : Bool). some_if u (record { words = ks; behind = words_of (drop r.to line) })) (sym b) ∙ ends t
+  pub ends-ill : (slash || eqb (length w) 0) ≡ true → beq slash before ≡ false → None ≡ list_of kind most before (words_of (drop at line))
+  ends-ill t b = ap (λ (u : Bool). some_if u (record { words = ks; behind = words_of (drop next line) })) (sym b) ∙ ends t
 
   -- another word is here
-  module _ (t : (slash || eqb r.from r.to) ≡ false) where
-    no_slash : is_slash (bytes_in line r) ≡ false
-    no_slash = sym s ∙ (or-false slash (eqb r.from r.to) t).0
+  module _ (t : (slash || eqb (length w) 0) ≡ false) where
+    no_slash : is_slash w ≡ false
+    no_slash = sym s ∙ (or-false slash (eqb (length w) 0) t).0
 
-    pub some_byte : r.from < r.to
+    some_byte : 0 < length w
     some_byte =
-        let q : r.from ≡ r.to → ⊥ = eqb-false r.from r.to (or-false slash (eqb r.from r.to) t).1 in
-        ⊎_elim (λ h. absurd (q h)) (λ h. h) (eq-or-lt_of_le (ordered line i e))
+        let q : length w ≡ 0 → ⊥ = eqb-false (length w) 0 (or-false slash (eqb (length w) 0) t).1 in
+        omega arith
 
-    here : words_of (drop i line) ≡ bytes_in line r ∷ words_of (drop r.to line)
-    here = next_of line i e some_byte
+    here : words_of (drop i line) ≡ w ∷ words_of (drop next line)
+    here = some some_byte
 
-    pub many : most ≤ count → none ≡ list_of kind most before (words_of (drop at line))
+    pub fewer : length (words_of (drop next line)) < length (words_of (drop i line))
+    fewer = omega (arith, ap length here)
+
+    pub many : most ≤ count → None ≡ list_of kind most before (words_of (drop at line))
     many h =
-        too_many kind most before ks (bytes_in line r) (words_of (drop r.to line)) no_slash (omega (arith, size))
+        too_many kind most before ks w (words_of (drop next line)) no_slash (omega (arith, size))
         ∙ ap (after kind most before ks) (sym here)
         ∙ p.same
 
-    pub unfit : is_row kind (bytes_in line r) ≡ false → none ≡ list_of kind most before (words_of (drop at line))
+    pub unfit : is_row kind w ≡ false → None ≡ list_of kind most before (words_of (drop at line))
     unfit h =
-        no_row kind most before ks (bytes_in line r) (words_of (drop r.to line)) no_slash h
+        no_row kind most before ks w (words_of (drop next line)) no_slash h
         ∙ ap (after kind most before ks) (sym here)
         ∙ p.same
 
-    first-here : first_of (drop count (words_of (drop at line))) ≡ bytes_in line r
-    first-here = ap first_of (sym p.left) ∙ sym (first-of line i e)
+    first-here : first_of (drop count (words_of (drop at line))) ≡ w
+    first-here = ap first_of (sym p.left) ∙ sym e
 
-    pub passed-more : count < most → is_row kind (bytes_in line r) ≡ true → Passed line at kind most before r.to (count + 1)
+    pub passed-more : count < most → is_row kind w ≡ true → Passed line at kind most before next (count + 1)
     passed-more h q =
         record {
           few = omega arith;
-          left = rest-of line i e ∙ ap rest_of p.left ∙ drop-drop 1 count (words_of (drop at line));
+          left = f ∙ ap rest_of p.left ∙ drop-drop 1 count (words_of (drop at line));
           same =
-              ap (λ (vs : Words). after kind most before vs (words_of (drop r.to line)))
+              ap (λ (vs : Words). after kind most before vs (words_of (drop next line)))
               (first_more count (words_of (drop at line)) ∙ ap (λ (w : List ℕ). ks ++ (w ∷ [])) first-here)
-              ∙ one_more kind most before ks (bytes_in line r) (words_of (drop r.to line)) no_slash q
+              ∙ one_more kind most before ks w (words_of (drop next line)) no_slash q
               ∙ ap (after kind most before ks) (sym here)
               ∙ p.same;
         }
@@ -202,19 +225,19 @@ module _ {A : Type 0} (f : List ℕ → A) (blank : A) (most : ℕ) (line : List
   none_filled list e = record { few = omega arith; room = omega arith; left = refl; stored = e }
 
   module _ (list : List A) (place i : ℕ) (p : Filled list place i) where
-    pub filled_more : {r : Word} (e : r ≡ word_at line place) (x : A) → x ≡ f (bytes_in line r) → i < most → i < n → Filled (set list i x) r.to (i + 1)
-    filled_more {r} e x q h k =
+    pub filled_more : {w : List ℕ} (next : ℕ) → w ≡ first_of (words_of (drop place line)) → words_of (drop next line) ≡ rest_of (words_of (drop place line)) → (x : A) → x ≡ f w → i < min n most → Filled (set list i x) next (i + 1)
+    filled_more next e d x q h =
         let ws = words_of (drop at line) in
         let size : i ≡ length (map f (first_words i ws)) = sym (length-map (first_words i ws) f ∙ length-first i ws) in
         let fits : length (map f (first_words i ws)) < length (replicate most blank) = omega (arith, length-replicate most blank) in
         record {
           few = omega arith;
           room = omega arith;
-          left = rest-of line place e ∙ ap rest_of p.left ∙ drop-drop 1 i ws;
+          left = d ∙ ap rest_of p.left ∙ drop-drop 1 i ws;
           stored =
               ap (λ (l : List A). set l i x) p.stored
               ∙ over-more (map f (first_words i ws)) (replicate most blank) i x size fits
-              ∙ ap (λ (y : A). over (map f (first_words i ws) ++ (y ∷ [])) (replicate most blank)) (q ∙ ap f (first-of line place e ∙ ap first_of p.left))
+              ∙ ap (λ (y : A). over (map f (first_words i ws) ++ (y ∷ [])) (replicate most blank)) (q ∙ ap f (e ∙ ap first_of p.left))
               ∙ ap (λ (l : List A). over l (replicate most blank)) (sym (map-append f (first_words i ws) (first_of (drop i ws) ∷ [])) ∙ ap (map f) (sym (first_more i ws)));
         }
 
@@ -236,16 +259,16 @@ module _ (line : List ℕ) (at n : ℕ) where
       record { few = omega arith; same = ap (λ (l : TradeCosts). foldl cost_step l (first_words (n - 0) (words_of (drop at line)))) e ∙ ap (λ (k : ℕ). foldl cost_step no_costs (first_words k (words_of (drop at line)))) z }
 
   module _ (list : TradeCosts) (place i : ℕ) (p : Gathered list place i) where
-    pub gathered-more : {r : Word} (e : r ≡ word_at line place) (l : TradeCosts) → l ≡ cost_step list (bytes_in line r) → i < n → Gathered l r.to (i + 1)
+    pub gathered-more : {w : List ℕ} (next : ℕ) → w ≡ first_of (words_of (drop place line)) → words_of (drop next line) ≡ rest_of (words_of (drop place line)) → (l : TradeCosts) → l ≡ cost_step list w → i < n → Gathered l next (i + 1)
     unfolding first_words
-    gathered-more {r} e l q h =
+    gathered-more next e d l q h =
         let ws = words_of (drop place line) in
         let z : suc (n - (i + 1)) ≡ n - i = omega arith in
         record {
           few = omega arith;
           same =
-              ap (λ (vs : Words). foldl cost_step l (first_words (n - (i + 1)) vs)) (rest-of line place e)
-              ∙ ap (λ (c : TradeCosts). foldl cost_step c (first_words (n - (i + 1)) (rest_of ws))) (q ∙ ap (cost_step list) (first-of line place e))
+              ap (λ (vs : Words). foldl cost_step l (first_words (n - (i + 1)) vs)) d
+              ∙ ap (λ (c : TradeCosts). foldl cost_step c (first_words (n - (i + 1)) (rest_of ws))) (q ∙ ap (cost_step list) e)
               ∙ ap (λ (k : ℕ). foldl cost_step list (first_words k ws)) z
               ∙ p.same;
         }

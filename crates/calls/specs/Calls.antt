@@ -1,22 +1,20 @@
 -- What a line says: the forms of docs/SCENARIOS.md, "The calls", over the words of the line. A line of no form is malformed, and says
 -- nothing else. Definitions only.
-use Rattle.std.specs.Prelude.{ℕ, Bool, true, false, ◌||◌, cond, ◌≡◌, List, [], map, leb, Float, drop}
-use Rattle.std.proofs.Math.Option.{Option, none, some, Option-elim}
+use Rattle.std.specs.Prelude.{ℕ, Bool, true, false, ◌||◌, cond, List, [], map, leb, Float}
+use Rattle.std.specs.Prelude.{Option, None, Some}
+use Rattle.lists.specs.Lists.{given}
 use Rattle.market.specs.Orders.{zero64, blank_order}
 use Rattle.market.specs.declared.order.Order.{Order}
 use Rattle.market.specs.declared.quote.Quote.{Quote}
 use Rattle.market.specs.declared.vendor_quote.VendorQuote.{VendorQuote}
 use Rattle.market.specs.declared.weight.Weight.{Weight}
 use Rattle.costs.specs.declared.BrokerCost.{BrokerCost}
-use Rattle.words.specs.Words.{words_of, same_bytes, ascii}
+use Rattle.words.specs.Words.{same_bytes, ascii}
 use Rattle.words.specs.Numbers.{some_if, whole_of, symbol_of, float_of}
 use Rattle.rows.specs.Rows.{order_of, lot_of}
 use Rattle.calls.specs.declared.list.RowKind.TheVariants.{Cost, Order as OrderRow, Quote as QuoteRow, Weight as WeightRow, Vendor as VendorRow}
 use Rattle.calls.specs.declared.list.Span.{Span}
 use Rattle.calls.specs.declared.call.Call.{Call}
-use Rattle.calls.specs.declared.call.LotAt.{LotAt}
-use Rattle.calls.specs.declared.call.Room.{Room}
-use Rattle.calls.specs.declared.call.Room.TheVariants.{Of as RoomOf, Malformed as NoRoom}
 use Rattle.calls.specs.declared.verb.Verb.{Verb}
 use Rattle.calls.specs.declared.verb.Verb.TheVariants.{Blank, Malformed, New, Lend, Deposit, Withdraw, Liquidate, Send, Insert, SendList, Delete, Check, Walk, Update, GetQuote, GetPositionQty, GetPendingOrder, GetPositionValue, GetPositionLiquidationValue, CostBasis, GetPositions, GetQuotes, GetHoldings, GetPendingOrders, GetTradeCosts, GetTotalValue, GetLiquidationValue, GetCashBalance, Turnover, GetBrokerState, ExecutedTradeCount, TradeImpactTotal, CalculateTradeCosts, Floor, Ceil, Correct, State, Quiet, Full, Clock}
 use Rattle.calls.specs.Verbs.{verb_of}
@@ -73,7 +71,7 @@ unfoldable pub said_if : Bool → Said → Said
 said_if ok s = cond ok s (plainly Malformed)
 
 abbrev pub formed : {A : Type 0} → Option A → (A → Said) → Said
-formed o f = Option-elim o (plainly Malformed) f
+formed o f = given o (plainly Malformed) f
 
 -- ---- a verb alone, or with one word that is the line's last
 
@@ -102,8 +100,8 @@ said_order v ws = formed (order_of (only_of ws)) (λ order. ordering v order)
 
 -- ROOM: a WHOLE, at most 1,024
 abbrev pub room_from : Option ℕ → Option ℕ
-room_from none = none
-room_from (some n) = some_if (leb n 1024) n
+room_from None = None
+room_from (Some n) = some_if (leb n 1024) n
 
 unfoldable pub room_of : List ℕ → Option ℕ
 room_of w = room_from (whole_of w)
@@ -142,7 +140,7 @@ pub record Lotted : Type 0 where
 
 -- the lot, which may be left out: the first word's number and the words behind it; where it is none, 1 and the words as they are
 unfoldable pub lot_at : Words → Lotted
-lot_at ws = Option-elim (lot_of (first_of ws)) (record { lot = 1; behind = ws }) (λ n. record { lot = n; behind = rest_of ws })
+lot_at ws = given (lot_of (first_of ws)) (record { lot = 1; behind = ws }) (λ n. record { lot = n; behind = rest_of ws })
 
 -- LOG lot:LOT COST* / QUOTE*, where the lot may be left out: what stands behind LOG, and all of it
 abbrev pub said_built : Verb → ℕ → Lotted → Said
@@ -266,6 +264,10 @@ heard line c =
           };
     }
 
+-- a call that was read or not: a line of no form is malformed
+abbrev pub heard_or : List ℕ → Option Call → Said
+heard_or line c = formed c (heard line)
+
 -- a call that is its verb alone
 abbrev pub no_span : Span
 no_span = record { at = 0; count = 0; next = 0 }
@@ -290,17 +292,3 @@ plain_call v =
       orders = no_span;
       vendors = no_span;
     }
-
--- what a `LotAt` says of a line
-abbrev pub lotted : List ℕ → LotAt → Lotted
-lotted line l = record { lot = l.lot; behind = words_of (drop l.next line) }
-
--- what a `Room` says
-abbrev pub room_in : Room → Option ℕ
-room_in (RoomOf n) = some n
-room_in NoRoom = none
-
--- the first of the words as f reads it, and the place behind it, where the others stand
-pub record FirstRead {A : Type 0} (f : List ℕ → A) (ws : Words) (line : List ℕ) (x : A) (next : ℕ) : Type 0 where
-  pub read : x ≡ f (first_of ws)
-  pub rest : words_of (drop next line) ≡ rest_of ws

@@ -3,8 +3,7 @@
 use Rattle.std.specs.Prelude.{ℕ, zero, suc, min, Bool, true, false, ◌&&◌, cond, leb, length, get_or, drop, replicate}
 use Rattle.std.specs.Bool.{beq}
 use mathlib.Core.List.{List, [], ◌∷◌, map, foldl}
-use Rattle.std.proofs.Math.Option
-use Rattle.std.proofs.Math.Option.{Option, none, some}
+use Rattle.std.specs.Prelude.{Option, None, Some, unwrap_or}
 use Rattle.lists.specs.Lists.{over}
 use Rattle.market.specs.Orders.{zero64, blank_order}
 use Rattle.market.specs.Quotes.{blank_quote}
@@ -23,8 +22,6 @@ use Rattle.rows.specs.Rows.{order_of, quote_of, vendor_of, weight_of, cost_of}
 use Rattle.calls.specs.declared.list.RowKind.{RowKind}
 use Rattle.calls.specs.declared.list.RowKind.TheVariants.{Cost, Order as OrderRow, Quote as QuoteRow, Weight as WeightRow, Vendor as VendorRow}
 use Rattle.calls.specs.declared.list.Span.{Span}
-use Rattle.calls.specs.declared.list.SpanRead.{SpanRead}
-use Rattle.calls.specs.declared.list.SpanRead.TheVariants.{Of as Spanned, Malformed as NoSpan}
 
 abbrev pub Words : Type 0
 Words = List (List ℕ)
@@ -71,8 +68,8 @@ behind_slash (w ∷ ws) = cond (is_slash w) ws (behind_slash ws)
 
 -- is there a value?
 abbrev pub is_some : {A : Type 0} → Option A → Bool
-is_some none = false
-is_some (some a) = true
+is_some None = false
+is_some (Some a) = true
 
 -- is the word a row of this kind?
 unfoldable pub is_row : RowKind → List ℕ → Bool
@@ -103,10 +100,10 @@ list_of kind most before ws =
 unfoldable pub words_in : List ℕ → Span → Words
 words_in line s = first_words s.count (words_of (drop s.at line))
 
--- what a `SpanRead` says of a line
-unfoldable pub spanned : List ℕ → SpanRead → Option Listed
-spanned line (Spanned s) = some (record { words = words_in line s; behind = words_of (drop s.next line) })
-spanned line NoSpan = none
+-- what a span that was read or not says of a line
+unfoldable pub spanned : List ℕ → Option Span → Option Listed
+spanned line (Some s) = Some (record { words = words_in line s; behind = words_of (drop s.next line) })
+spanned line None = None
 
 -- ---- rows read off words
 
@@ -118,19 +115,23 @@ blank_cost = Flat zero64
 
 -- a word as a row, which is blank where the word is none; the words of a list are rows, by list_of
 unfoldable pub order_or_blank : List ℕ → Order
-order_or_blank w = Option.get_or (order_of w) blank_order
+order_or_blank w = unwrap_or (order_of w) blank_order
 
 unfoldable pub quote_or_blank : List ℕ → Quote
-quote_or_blank w = Option.get_or (quote_of w) blank_quote
+quote_or_blank w = unwrap_or (quote_of w) blank_quote
 
 unfoldable pub vendor_or_blank : List ℕ → VendorQuote
-vendor_or_blank w = Option.get_or (vendor_of w) blank_vendor
+vendor_or_blank w = unwrap_or (vendor_of w) blank_vendor
 
 unfoldable pub weight_or_blank : List ℕ → Weight
-weight_or_blank w = Option.get_or (weight_of w) blank_weight
+weight_or_blank w = unwrap_or (weight_of w) blank_weight
 
 unfoldable pub cost_or_blank : List ℕ → BrokerCost
-cost_or_blank w = Option.get_or (cost_of w) blank_cost
+cost_or_blank w = unwrap_or (cost_of w) blank_cost
+
+-- the first n words as rows by f, in the first places of an array of blanks
+abbrev pub read_rows : {A : Type 0} → (List ℕ → Option A) → A → ℕ → ℕ → Words → List A
+read_rows f blank most n ws = over (map (λ w. unwrap_or (f w) blank) (first_words (min n most) ws)) (replicate most blank)
 
 -- the first n words as orders, quotes, vendor quotes or weights, in the first places of an array of blanks
 unfoldable pub read_orders : ℕ → Words → List Order

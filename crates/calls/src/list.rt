@@ -1,16 +1,19 @@
 // Lists of rows in a line: they end at a `/` or at the line's end.
 #![tactic(auto, unfolding(crate::specs::Lists::is_row, crate::specs::Lists::order_or_blank, crate::specs::Lists::quote_or_blank, crate::specs::Lists::vendor_or_blank, crate::specs::Lists::weight_or_blank, crate::specs::Lists::cost_or_blank))]
 
-ghost use Rattle.std.specs.Prelude.{◌≡◌, drop};
+ghost use Rattle.std.specs.Prelude.{◌≡◌, List, ℕ, Option, drop};
 ghost use Rattle.words.specs.Words.{words_of};
-ghost use Rattle.calls.specs.Lists.{is_slash, is_row, list_of, spanned, order_or_blank, quote_or_blank, vendor_or_blank, weight_or_blank, cost_or_blank, read_orders, read_quotes, read_vendors, read_weights, read_costs};
+ghost use Rattle.market.specs.Orders.{blank_order};
+ghost use Rattle.market.specs.Quotes.{blank_quote};
+ghost use Rattle.market.specs.VendorQuotes.{blank_vendor};
+ghost use Rattle.rows.specs.Rows.{order_of, quote_of, vendor_of, weight_of};
+ghost use Rattle.calls.specs.Lists.{is_slash, is_row, list_of, spanned, blank_weight, cost_or_blank, read_rows, read_orders, read_quotes, read_vendors, read_weights, read_costs};
 
 use costs::{BrokerCost, TradeCosts};
 use market::order::Order;
 use market::quote::Quote;
 use market::vendor_quote::VendorQuote;
 use market::weight::Weight;
-use rows::{CostRead, OrderRead, QuoteRead, VendorRead, WeightRead};
 use words::word;
 
 // What the words of a list are.
@@ -32,37 +35,88 @@ pub struct Span {
     pub next: usize,
 }
 
-// The list that the words at a place are, or words that are none.
-#[derive(Clone, Copy)]
-pub enum SpanRead {
-    Of(Span),
-    Malformed,
+// A row that a word can be, and one that stands where a word is none. (The words of a span are rows,
+// so none of them is read as a blank.)
+trait WordRow: Copy {
+    ghost row_of: { List ℕ → Option Self };
+
+    ghost blank_row: { Self };
+
+    fn read(w: &[u8]) -> Option<Self>
+        ensures { result ≡ row_of w.now };
+
+    fn blank() -> Self
+        ensures { result ≡ blank_row };
+}
+
+impl WordRow for Quote {
+    ghost row_of = { quote_of };
+
+    ghost blank_row = { blank_quote };
+
+    fn read(w: &[u8]) -> Option<Quote> {
+        rows::quote(w)
+    }
+
+    fn blank() -> Quote {
+        Quote::blank()
+    }
+}
+
+impl WordRow for VendorQuote {
+    ghost row_of = { vendor_of };
+
+    ghost blank_row = { blank_vendor };
+
+    fn read(w: &[u8]) -> Option<VendorQuote> {
+        rows::vendor(w)
+    }
+
+    fn blank() -> VendorQuote {
+        VendorQuote::blank()
+    }
+}
+
+impl WordRow for Weight {
+    ghost row_of = { weight_of };
+
+    ghost blank_row = { blank_weight };
+
+    fn read(w: &[u8]) -> Option<Weight> {
+        rows::weight(w)
+    }
+
+    fn blank() -> Weight {
+        Weight {
+            symbol: 0,
+            weight: 0.0,
+        }
+    }
+}
+
+impl WordRow for Order {
+    ghost row_of = { order_of };
+
+    ghost blank_row = { blank_order };
+
+    fn read(w: &[u8]) -> Option<Order> {
+        rows::order(w)
+    }
+
+    fn blank() -> Order {
+        Order::blank()
+    }
 }
 
 fn is_row(w: &[u8], kind: RowKind) -> bool
     ensures { result ≡ is_row kind w.now }
 {
     match kind {
-        RowKind::Cost => match rows::cost(w) {
-            CostRead::Of(_) => true,
-            CostRead::Malformed => false,
-        },
-        RowKind::Order => match rows::order(w) {
-            OrderRead::Of(_) => true,
-            OrderRead::Malformed => false,
-        },
-        RowKind::Quote => match rows::quote(w) {
-            QuoteRead::Of(_) => true,
-            QuoteRead::Malformed => false,
-        },
-        RowKind::Weight => match rows::weight(w) {
-            WeightRead::Of(_) => true,
-            WeightRead::Malformed => false,
-        },
-        RowKind::Vendor => match rows::vendor(w) {
-            VendorRead::Of(_) => true,
-            VendorRead::Malformed => false,
-        },
+        RowKind::Cost => rows::cost(w).is_some(),
+        RowKind::Order => rows::order(w).is_some(),
+        RowKind::Quote => rows::quote(w).is_some(),
+        RowKind::Weight => rows::weight(w).is_some(),
+        RowKind::Vendor => rows::vendor(w).is_some(),
     }
 }
 
@@ -74,180 +128,82 @@ fn is_slash(w: &[u8]) -> bool
 
 // The list of such rows that starts at `at`, of `most` rows at most, where a `/` ends it, or with
 // `before` false the line's end.
-pub fn span_at(line: &[u8], at: usize, kind: RowKind, most: usize, before: bool) -> SpanRead
+pub fn span_at(line: &[u8], at: usize, kind: RowKind, most: usize, before: bool) -> Option<Span>
     ensures { spanned line.now result ≡ list_of kind most before (words_of (drop at line.now)) }
 {
     let mut i = at;
     let mut count: usize = 0;
     loop {
-        let w = word::word_at(line, i);
-        let from = w.from;
-        let to = w.to;
-        let slash = is_slash(&line[from..to]);
-        if slash | (from == to) {
+        let (w, next) = word::first_at(line, i);
+        let slash = is_slash(w);
+        if slash | w.is_empty() {
             if slash != before {
-                return SpanRead::Malformed;
+                return None;
             }
-            return SpanRead::Of(Span {
-                at: at,
-                count: count,
-                next: to,
-            });
+            return Some(Span { at, count, next });
         }
         if count >= most {
-            return SpanRead::Malformed;
+            return None;
         }
-        if !is_row(&line[from..to], kind) {
-            return SpanRead::Malformed;
+        if !is_row(w, kind) {
+            return None;
         }
-        count = count + 1;
-        i = to;
+        count += 1;
+        i = next;
     }
 }
 
-// The quote that a word is, or a blank one. (The words of a span are rows, so none of them is
-// read as a blank.)
-fn quote_or_blank(w: &[u8]) -> Quote
-    ensures { result ≡ quote_or_blank w.now }
+// The first `n` words from `at` on, at most `N`, as rows, and blank ones behind them.
+fn rows<R: WordRow, const N: usize>(line: &[u8], at: usize, n: usize) -> [R; N]
+    ensures { result ≡ read_rows R.row_of R.blank_row N n (words_of (drop at line.now)) }
 {
-    match rows::quote(w) {
-        QuoteRead::Of(row) => row,
-        QuoteRead::Malformed => Quote::blank(),
+    let mut list = [R::blank(); N];
+    let mut place = at;
+    for i in 0..n.min(N) {
+        let (w, next) = word::first_at(line, place);
+        list[i] = R::read(w).unwrap_or(R::blank());
+        place = next;
     }
+    list
 }
 
-// The vendor's quote that a word is, or a blank one.
-fn vendor_or_blank(w: &[u8]) -> VendorQuote
-    ensures { result ≡ vendor_or_blank w.now }
+// The first `n` words from `at` on, at most 512, as quotes.
+#[tactic(auto, unfolding(crate::specs::Lists::quote_or_blank, crate::specs::Lists::read_quotes))]
+pub fn quotes(line: &[u8], at: usize, n: usize) -> [Quote; 512]
+    ensures { result ≡ read_quotes n (words_of (drop at line.now)) }
 {
-    match rows::vendor(w) {
-        VendorRead::Of(row) => row,
-        VendorRead::Malformed => VendorQuote::blank(),
-    }
+    rows(line, at, n)
 }
 
-// The weight that a word is, or a blank one.
-fn weight_or_blank(w: &[u8]) -> Weight
-    ensures { result ≡ weight_or_blank w.now }
+// The first `n` words from `at` on, at most 512, as weights.
+#[tactic(auto, unfolding(crate::specs::Lists::weight_or_blank, crate::specs::Lists::read_weights))]
+pub fn weights(line: &[u8], at: usize, n: usize) -> [Weight; 512]
+    ensures { result ≡ read_weights n (words_of (drop at line.now)) }
 {
-    match rows::weight(w) {
-        WeightRead::Of(row) => row,
-        WeightRead::Malformed => Weight {
-            symbol: 0,
-            weight: 0.0,
-        },
-    }
+    rows(line, at, n)
 }
 
-// The order that a word is, or a blank one.
-fn order_or_blank(w: &[u8]) -> Order
-    ensures { result ≡ order_or_blank w.now }
+// The first `n` words from `at` on, at most 1,024, as orders.
+#[tactic(auto, unfolding(crate::specs::Lists::order_or_blank, crate::specs::Lists::read_orders))]
+pub fn orders(line: &[u8], at: usize, n: usize) -> [Order; 1024]
+    ensures { result ≡ read_orders n (words_of (drop at line.now)) }
 {
-    match rows::order(w) {
-        OrderRead::Of(row) => row,
-        OrderRead::Malformed => Order::market_sell(0, 0.0),
-    }
+    rows(line, at, n)
+}
+
+// The first `n` words from `at` on, at most 1,100, as vendor quotes.
+#[tactic(auto, unfolding(crate::specs::Lists::vendor_or_blank, crate::specs::Lists::read_vendors))]
+pub fn vendors(line: &[u8], at: usize, n: usize) -> [VendorQuote; 1100]
+    ensures { result ≡ read_vendors n (words_of (drop at line.now)) }
+{
+    rows(line, at, n)
 }
 
 // The cost that a word is, or a blank one.
 fn cost_or_blank(w: &[u8]) -> BrokerCost
     ensures { result ≡ cost_or_blank w.now }
 {
-    match rows::cost(w) {
-        CostRead::Of(row) => row,
-        CostRead::Malformed => BrokerCost::Flat(0.0),
-    }
-}
-
-// The first `n` words from `at` on, at most 512, as quotes.
-pub fn quotes(line: &[u8], at: usize, n: usize) -> [Quote; 512]
-    ensures { result ≡ read_quotes n (words_of (drop at line.now)) }
-{
-    let blank = Quote::blank();
-    let mut list: [Quote; 512] = [blank; 512];
-    let mut at_word = at;
-    let mut i: usize = 0;
-    while i < 512 {
-        if i >= n {
-            break;
-        }
-        let w = word::word_at(line, at_word);
-        let from = w.from;
-        let to = w.to;
-        list[i] = quote_or_blank(&line[from..to]);
-        at_word = to;
-        i = i + 1;
-    }
-    list
-}
-
-// The first `n` words from `at` on, at most 512, as weights.
-pub fn weights(line: &[u8], at: usize, n: usize) -> [Weight; 512]
-    ensures { result ≡ read_weights n (words_of (drop at line.now)) }
-{
-    let blank = Weight {
-        symbol: 0,
-        weight: 0.0,
-    };
-    let mut list: [Weight; 512] = [blank; 512];
-    let mut at_word = at;
-    let mut i: usize = 0;
-    while i < 512 {
-        if i >= n {
-            break;
-        }
-        let w = word::word_at(line, at_word);
-        let from = w.from;
-        let to = w.to;
-        list[i] = weight_or_blank(&line[from..to]);
-        at_word = to;
-        i = i + 1;
-    }
-    list
-}
-
-// The first `n` words from `at` on, at most 1,024, as orders.
-pub fn orders(line: &[u8], at: usize, n: usize) -> [Order; 1024]
-    ensures { result ≡ read_orders n (words_of (drop at line.now)) }
-{
-    let blank = Order::blank();
-    let mut list: [Order; 1024] = [blank; 1024];
-    let mut at_word = at;
-    let mut i: usize = 0;
-    while i < 1024 {
-        if i >= n {
-            break;
-        }
-        let w = word::word_at(line, at_word);
-        let from = w.from;
-        let to = w.to;
-        list[i] = order_or_blank(&line[from..to]);
-        at_word = to;
-        i = i + 1;
-    }
-    list
-}
-
-// The first `n` words from `at` on, at most 1,100, as vendor quotes.
-pub fn vendors(line: &[u8], at: usize, n: usize) -> [VendorQuote; 1100]
-    ensures { result ≡ read_vendors n (words_of (drop at line.now)) }
-{
-    let blank = VendorQuote::blank();
-    let mut list: [VendorQuote; 1100] = [blank; 1100];
-    let mut at_word = at;
-    let mut i: usize = 0;
-    while i < 1100 {
-        if i >= n {
-            break;
-        }
-        let w = word::word_at(line, at_word);
-        let from = w.from;
-        let to = w.to;
-        list[i] = vendor_or_blank(&line[from..to]);
-        at_word = to;
-        i = i + 1;
-    }
-    list
+    rows::cost(w).unwrap_or(BrokerCost::Flat(0.0))
 }
 
 // The first `n` words from `at` on as costs.
@@ -255,15 +211,11 @@ pub fn costs(line: &[u8], at: usize, n: usize) -> TradeCosts
     ensures { result ≡ read_costs n (words_of (drop at line.now)) }
 {
     let mut list = TradeCosts::none();
-    let mut at_word = at;
-    let mut i: usize = 0;
-    while i < n {
-        let w = word::word_at(line, at_word);
-        let from = w.from;
-        let to = w.to;
-        list = list.with(cost_or_blank(&line[from..to]));
-        at_word = to;
-        i = i + 1;
+    let mut place = at;
+    for _i in 0..n {
+        let (w, next) = word::first_at(line, place);
+        list = list.with(cost_or_blank(w));
+        place = next;
     }
     list
 }

@@ -4,7 +4,7 @@ ghost use Rattle.calls.specs.Verbs.{named_or, verb_in, symbol_readers, room_read
 
 use words::word;
 
-#[derive(Clone, Copy)]
+#[derive(Clone, Copy, PartialEq)]
 pub enum Verb {
     Blank,
     Malformed,
@@ -48,7 +48,8 @@ pub enum Verb {
     Clock,
 }
 
-// The verb of this name, or `rest` where the word is another.
+// The verb of this name, or `rest` where the word is another. The names are tested one by one, the last
+// row first: a match on them opens a case for each of their bytes, and its proof was not found.
 fn named_or(w: &[u8], name: &[u8], verb: Verb, rest: Verb) -> Verb
     ensures { result ≡ named_or w.now name.now verb rest }
 {

@@ -1,6 +1,6 @@
 -- Cases of document 01, section 4: what a trade makes of cash, holdings and pending; latest quotes; values; cost basis. Definitions only.
 use Rattle.std.specs.Prelude.{ℕ, List, [], ◌∷◌, map, pos, Float}
-use Rattle.std.proofs.Math.Option.{Option, none, some}
+use Rattle.std.specs.Prelude.{Option, None, Some}
 use Rattle.market.specs.declared.trade.Trade.{Trade}
 use Rattle.market.specs.declared.trade.TradeType.TheVariants.{Buy, Sell}
 use Rattle.costs.specs.declared.BrokerCost.{BrokerCost}
@@ -25,28 +25,28 @@ after t cash held pending = let m = settled (having (Flat (num 10) ∷ []) [] ca
 abbrev pub booking : List Example
 booking =
     -- a buy takes its value from cash, and no costs, adds its shares to the holding and takes them off pending: 100 - 30; 0 + 3; 3 - 3 is removed
-    example 421 (after bought (num 100) [] ((1, num 3) ∷ [])) (num 70, (some (num 3), none)) ∷
+    example 421 (after bought (num 100) [] ((1, num 3) ∷ [])) (num 70, (Some (num 3), None)) ∷
     -- 2 + 3; 5 - 3
-    example 422 (after bought (num 100) ((1, num 2) ∷ []) ((1, num 5) ∷ [])) (num 70, (some (num 5), some (num 2))) ∷
+    example 422 (after bought (num 100) ((1, num 2) ∷ []) ((1, num 5) ∷ [])) (num 70, (Some (num 5), Some (num 2))) ∷
     -- absent reads as 0.0: pending 0 - 3. Cash may fall below zero: 20 - 30
-    example 423 (after bought (num 20) [] []) (negative 10 1, (some (num 3), some (negative 3 1))) ∷
+    example 423 (after bought (num 20) [] []) (negative 10 1, (Some (num 3), Some (negative 3 1))) ∷
     -- -3 + 3 is removed
-    example 424 (after bought (num 100) ((1, negative 3 1) ∷ []) ((1, num 3) ∷ [])) (num 70, (none, none)) ∷
+    example 424 (after bought (num 100) ((1, negative 3 1) ∷ []) ((1, num 3) ∷ [])) (num 70, (None, None)) ∷
     -- a sale does the reverse: 100 + 28.5; 5 - 3; -3 + 3 is removed
-    example 425 (after sold (num 100) ((1, num 5) ∷ []) ((1, negative 3 1) ∷ [])) (halves 257, (some (num 2), none)) ∷
+    example 425 (after sold (num 100) ((1, num 5) ∷ []) ((1, negative 3 1) ∷ [])) (halves 257, (Some (num 2), None)) ∷
     -- 3 - 3 is removed; -5 + 3
-    example 426 (after sold (num 100) ((1, num 3) ∷ []) ((1, negative 5 1) ∷ [])) (halves 257, (none, some (negative 2 1))) ∷
+    example 426 (after sold (num 100) ((1, num 3) ∷ []) ((1, negative 5 1) ∷ [])) (halves 257, (None, Some (negative 2 1))) ∷
     -- of an unheld symbol: 0 - 3 is held, 0 + 3 pending
-    example 427 (after sold (num 100) [] []) (halves 257, (some (negative 3 1), some (num 3))) ∷
+    example 427 (after sold (num 100) [] []) (halves 257, (Some (negative 3 1), Some (num 3))) ∷
     -- another symbol keeps its holding and its pending
     example 428
     (let m = settled (having [] [] (num 100) ((2, num 4) ∷ []) ((2, num 6) ∷ [])) bought in m.held 2 ∷ m.pending 2 ∷ [])
-    (some (num 4) ∷ some (num 6) ∷ []) ∷
+    (Some (num 4) ∷ Some (num 6) ∷ []) ∷
     -- each fetched row is its symbol's latest quote; that of 1 is kept, and 3 has none
     example 429
     (map (fetched (quote 2 (num 5) (num 6) ∷ quote 255 (num 7) (num 8) ∷ []) (having [] (quote 1 (num 9) (num 10) ∷ quote 2 (num 3) (num 4) ∷ []) (num 0) [] [])).latest
     (1 ∷ 2 ∷ 255 ∷ 3 ∷ []))
-    (some (quote 1 (num 9) (num 10)) ∷ some (quote 2 (num 5) (num 6)) ∷ some (quote 255 (num 7) (num 8)) ∷ none ∷ []) ∷ []
+    (Some (quote 1 (num 9) (num 10)) ∷ Some (quote 2 (num 5) (num 6)) ∷ Some (quote 255 (num 7) (num 8)) ∷ None ∷ []) ∷ []
 
 -- bids 3, 9.5 and 100 of the symbols 0, 255 and 7, asks above them; cash 100; 2 of symbol 0, 4 of 255 and 5 of the unquoted 9 are held, none of 7
 abbrev portfolio : List BrokerCost → Money
@@ -62,7 +62,7 @@ large costs bid =
 abbrev pub valuing : List Example
 valuing =
     -- a held symbol's value is latest bid × holding: 3 × 2, 9.5 × 4; absent without a latest quote, and without a holding
-    example 441 (map (value_of (portfolio [])) (0 ∷ 255 ∷ 9 ∷ 7 ∷ [])) (some (num 6) ∷ some (num 38) ∷ none ∷ none ∷ []) ∷
+    example 441 (map (value_of (portfolio [])) (0 ∷ 255 ∷ 9 ∷ 7 ∷ [])) (Some (num 6) ∷ Some (num 38) ∷ None ∷ None ∷ []) ∷
     -- total: 100 + 6 + 38, with and without costs
     example 442 (map (λ c. total_value (portfolio c)) ([] ∷ (PctOfValue (ratio 1 4) ∷ Flat (num 2) ∷ []) ∷ [])) (num 144 ∷ num 144 ∷ []) ∷
     -- liquidation without costs: the same. A part 0.25: 100 + 6 × 0.75 + 38 × 0.75 = 100 + 4.5 + 28.5
@@ -88,8 +88,8 @@ log =
 abbrev pub folding : List Example
 folding =
     -- cost basis by symbol: (100 + 140 - 90) / (10 + 10 - 5) = 10; 80 / 4 = 20; -24 / -2 = 12; none for a symbol without a trade
-    example 481 (map (cost_basis log) (1 ∷ 2 ∷ 3 ∷ 4 ∷ [])) (some (num 10) ∷ some (num 20) ∷ some (num 12) ∷ none ∷ []) ∷
+    example 481 (map (cost_basis log) (1 ∷ 2 ∷ 3 ∷ 4 ∷ [])) (Some (num 10) ∷ Some (num 20) ∷ Some (num 12) ∷ None ∷ []) ∷
     -- quantity zero clears value: -24 + 30 is cleared with -2 + 2, so that 1 for 7 has the basis 7
     example 482
     (map (λ l. cost_basis l 3) ((trade_at Sell 3 (num 2) (num 24) (pos 1) ∷ trade_at Buy 3 (num 2) (num 30) (pos 2) ∷ trade_at Buy 3 (num 1) (num 7) (pos 3) ∷ []) ∷ [] ∷ []))
-    (some (num 7) ∷ none ∷ []) ∷ []
+    (Some (num 7) ∷ None ∷ []) ∷ []

@@ -1,6 +1,6 @@
 -- Cases of document 01, section 4, by the plain ledger's calls one after the other: checks, shortfalls, and what a Failed broker refuses. Definitions only.
 use Rattle.std.specs.Prelude.{ℕ, Bool, true, false, List, [], ◌∷◌, Float}
-use Rattle.std.proofs.Math.Option.{Option, none, some}
+use Rattle.std.specs.Prelude.{Option, None, Some}
 use Rattle.market.specs.Orders.{event_of}
 use Rattle.market.specs.declared.order.Order.{Order}
 use Rattle.market.specs.declared.quote.Quote.{Quote}
@@ -45,27 +45,27 @@ checking =
     -- a sent buy raises pending, and waits
     example 466
     (seen (after (at 9 10) (deposit (num 100) ∷ send (buy 1 9) ∷ [])))
-    (record { cash = num 100; failed = false; held = none; pending = some (num 9); latest = some (quote 1 (num 9) (num 10)); waiting = buy 1 9 ∷ [] }) ∷
+    (record { cash = num 100; failed = false; held = None; pending = Some (num 9); latest = Some (quote 1 (num 9) (num 10)); waiting = buy 1 9 ∷ [] }) ∷
     -- its trade is at the tradable table's ask, 9 × 11 = 99; the latest quote is the fetched one
     example 467
     (seen (after (at 9 10) (deposit (num 100) ∷ send (buy 1 9) ∷ check [] [] ∷ check (at 10 11) (at 20 21) ∷ [])))
-    (record { cash = num 1; failed = false; held = some (num 9); pending = none; latest = some (quote 1 (num 20) (num 21)); waiting = [] }) ∷
+    (record { cash = num 1; failed = false; held = Some (num 9); pending = None; latest = Some (quote 1 (num 20) (num 21)); waiting = [] }) ∷
     -- without a fetched row the latest quote is kept
     example 468
     (seen (after (at 9 10) (deposit (num 100) ∷ send (buy 1 9) ∷ check [] [] ∷ check (at 10 11) [] ∷ [])))
-    (record { cash = num 1; failed = false; held = some (num 9); pending = none; latest = some (quote 1 (num 9) (num 10)); waiting = [] }) ∷
+    (record { cash = num 1; failed = false; held = Some (num 9); pending = None; latest = Some (quote 1 (num 9) (num 10)); waiting = [] }) ∷
     -- cash 0 is no shortfall: 9 × 10 of 90
     example 469
     (seen (after (at 9 10) (deposit (num 90) ∷ insert (buy 1 9) ∷ check [] [] ∷ check (at 9 10) [] ∷ [])))
-    (record { cash = num 0; failed = false; held = some (num 9); pending = some (negative 9 1); latest = some (quote 1 (num 9) (num 10)); waiting = [] }) ∷
+    (record { cash = num 0; failed = false; held = Some (num 9); pending = Some (negative 9 1); latest = Some (quote 1 (num 9) (num 10)); waiting = [] }) ∷
     -- a shortfall of 4,000 - 3,000 and the 1,000: 2,000 / 100 = 20 shares are sent, at the bid 99.5 rounded up
     example 470
     (seen (after (quote 1 (halves 199) (num 101) ∷ []) exceeds_holding))
-    (record { cash = negative 1000 1; failed = false; held = some (num 40); pending = some (negative 60 1); latest = some (quote 1 (halves 199) (num 101)); waiting = sell 1 20 ∷ [] }) ∷
+    (record { cash = negative 1000 1; failed = false; held = Some (num 40); pending = Some (negative 60 1); latest = Some (quote 1 (halves 199) (num 101)); waiting = sell 1 20 ∷ [] }) ∷
     -- a shortfall that is not covered: Failed; 1,080 exceeds cash, which is kept
     example 471
     (seen (after (at 9 10) failing))
-    (record { cash = negative 80 1; failed = true; held = some (num 9); pending = none; latest = some (quote 1 (num 20) (num 20)); waiting = [] }) ∷
+    (record { cash = negative 80 1; failed = true; held = Some (num 9); pending = None; latest = Some (quote 1 (num 20) (num 20)); waiting = [] }) ∷
     -- a Failed broker: deposits, withdrawals and sends draw 4; a liquidation does not (the sale of 2.5 shares does, unreported), nor does an insertion, nor a
     -- check, which books it, nor the next, which trades it
     example 472
@@ -75,7 +75,7 @@ checking =
     -- after those: cash -80 + 5 × 30, 9 - 5 held, pending 0 + 5 by the trade alone; Failed for good
     example 473
     (seen (Ledger.run (after (at 9 10) failing) (deposit (num 10) ∷ send (sell 1 1) ∷ liquidate (num 50) ∷ insert (sell 1 5) ∷ check [] [] ∷ check (at 30 31) [] ∷ [])))
-    (record { cash = num 70; failed = true; held = some (num 4); pending = some (num 5); latest = some (quote 1 (num 20) (num 20)); waiting = [] }) ∷
+    (record { cash = num 70; failed = true; held = Some (num 4); pending = Some (num 5); latest = Some (quote 1 (num 20) (num 20)); waiting = [] }) ∷
     -- a Ready broker: a deposit adds, a withdrawal of all of cash takes it, one above cash draws 12, and a negative deposit is allowed
     example 474
     (Ledger.answers (after [] []) (deposit (num 100) ∷ withdraw (halves 201) ∷ withdraw (num 100) ∷ deposit (negative 5 1) ∷ []))

@@ -1,6 +1,6 @@
 -- Cases of document 02, request 1: lots. Definitions only.
 use Rattle.std.specs.Prelude.{ℕ, true, false, List, [], ◌∷◌, map, Float}
-use Rattle.std.proofs.Math.Option.{Option, none, some}
+use Rattle.std.specs.Prelude.{Option, None, Some}
 use Rattle.std.specs.Float.{nan, inf}
 use Rattle.floats.specs.Lots.{is_lot, lot_shares}
 use Rattle.market.specs.Faults.{drawn}
@@ -54,16 +54,16 @@ lots =
     -- by 5: 16.5 gives 15, 15 itself, 4.5 and 0 give 0, -0 itself, -0.5 and -5 give -5, -5.5 gives -10
     example 1002
     (map (lot_shares 5) (halves 33 ∷ num 15 ∷ halves 9 ∷ num 0 ∷ negative 0 1 ∷ negative 1 2 ∷ negative 5 1 ∷ negative 11 2 ∷ []))
-    (map (λ x. some x) (num 15 ∷ num 15 ∷ num 0 ∷ num 0 ∷ negative 0 1 ∷ negative 5 1 ∷ negative 5 1 ∷ negative 10 1 ∷ [])) ∷
+    (map (λ x. Some x) (num 15 ∷ num 15 ∷ num 0 ∷ num 0 ∷ negative 0 1 ∷ negative 5 1 ∷ negative 5 1 ∷ negative 10 1 ∷ [])) ∷
     -- by 2, from 2 to the 52nd on nothing is rounded; 4,503,599,627,370,495.5 below it gives 4,503,599,627,370,494, and its negative -4,503,599,627,370,496
     example 1003 (map (lot_shares 2) edge)
-    (none ∷ some (num 4503599627370494) ∷ none ∷ some (negative 4503599627370496 1) ∷ none ∷ none ∷ none ∷ []) ∷
+    (None ∷ Some (num 4503599627370494) ∷ None ∷ Some (negative 4503599627370496 1) ∷ None ∷ None ∷ None ∷ []) ∷
     -- by 1,000,000: 4,503,599,627 and 4,503,599,628 millions, the latter above 2 to the 52nd and exact
     example 1004 (map (lot_shares 1000000) (halves 9007199254740991 ∷ negative 9007199254740991 2 ∷ []))
-    (some (num 4503599627000000) ∷ some (negative 4503599628000000 1) ∷ []) ∷
+    (Some (num 4503599627000000) ∷ Some (negative 4503599628000000 1) ∷ []) ∷
     -- by 1 as before, whatever the quotient: 4,503,599,627,370,495.5 gives 4,503,599,627,370,495, and its negative -4,503,599,627,370,496
     example 1005 (map (lot_shares 1) edge)
-    (map (λ x. some x) (num 4503599627370496 ∷ num 4503599627370495 ∷ negative 4503599627370496 1 ∷ negative 4503599627370496 1 ∷ inf false ∷ inf true ∷ nan ∷ [])) ∷
+    (map (λ x. Some x) (num 4503599627370496 ∷ num 4503599627370495 ∷ negative 4503599627370496 1 ∷ negative 4503599627370496 1 ∷ inf false ∷ inf true ∷ nan ∷ [])) ∷
     -- the builder: 17 at 0 and at 1,000,001; 14 before 17, 17 before 2
     example 1006
     (drawn (builder_tests 0 0 []) ∷ drawn (builder_tests 0 1000001 []) ∷ drawn (builder_tests 0 1000000 []) ∷ drawn (builder_tests 17 0 []) ∷ drawn (builder_tests 1 0 (Flat nan ∷ [])) ∷ drawn (builder_tests 1 5 (Flat nan ∷ [])) ∷ [])
@@ -98,9 +98,9 @@ lots =
     example 1013
     (Ledger.answer (holding (in_lots 2 (money []))) (update [] (quote 4 (num 7) (num 8) ∷ []) (weight 2 (halves 1) ∷ weight 3 (halves 1) ∷ []) (blank ∷ blank ∷ [])))
     (updated 18 zero64 0 (blank ∷ blank ∷ [])) ∷
-    example 1014 (latest_and_waiting refused_update 4) (some (quote 4 (num 7) (num 8)), []) ∷
+    example 1014 (latest_and_waiting refused_update 4) (Some (quote 4 (num 7) (num 8)), []) ∷
     -- a liquidation keeps its fraction at lot 100: 10 held at bid 8, 20 / 8 is 2.5
-    example 1015 (sales_for (in_lots 100 (having [] (quote 1 (num 8) (num 9) ∷ []) (num 0) ((1, num 10) ∷ []) [])) (num 20)) (some (market_order MarketSell 1 (halves 5) ∷ [])) ∷
+    example 1015 (sales_for (in_lots 100 (having [] (quote 1 (num 8) (num 9) ∷ []) (num 0) ((1, num 10) ∷ []) [])) (num 20)) (Some (market_order MarketSell 1 (halves 5) ∷ [])) ∷
     -- the lot of the start is kept by a deposit, a send, a check that books it and one that trades: cash 1,000 - 3 × 10 = 970, 3 held at 9 are 27;
     -- 997 × 0.5 - 27 = 471.5, at 10 47.15, by 4: 44
     example 1016

@@ -1,6 +1,6 @@
 -- What the cases start from, and what they look at. Definitions only.
 use Rattle.std.specs.Prelude.{ℕ, false, true, cond, List, [], ◌∷◌, eqb, ℤ, pos, Float}
-use Rattle.std.proofs.Math.Option.{Option, none, some}
+use Rattle.std.specs.Prelude.{Option, None, Some}
 use Rattle.std.specs.Float.Ieee as Ieee
 use Rattle.std.specs.Float.{fin, binary64}
 use Rattle.market.specs.Quotes.{row_for}
@@ -39,8 +39,8 @@ trade_at k s quantity value date = record { symbol = s; typ = k; value = value; 
 -- ---- money: these costs, latest quotes, cash, holdings and pending quantities; lot 1, Ready
 
 abbrev pub entries : List (ℕ × Float) → ℕ → Option Float
-entries [] n = none
-entries (e ∷ l) n = cond (eqb n e.0) (some e.1) (entries l n)
+entries [] n = None
+entries (e ∷ l) n = cond (eqb n e.0) (Some e.1) (entries l n)
 
 abbrev pub having : List BrokerCost → List Quote → Float → List (ℕ × Float) → List (ℕ × Float) → Money
 having costs quotes cash held pending =

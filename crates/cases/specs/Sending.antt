@@ -1,6 +1,6 @@
 -- Cases of document 01, section 4: which sent order draws which number, and what it makes of pending. Definitions only.
 use Rattle.std.specs.Prelude.{ℕ, true, false, List, [], ◌∷◌, map, replicate, Float}
-use Rattle.std.proofs.Math.Option.{Option, none, some}
+use Rattle.std.specs.Prelude.{Option, None, Some}
 use Rattle.std.specs.Float.{nan}
 use Rattle.market.specs.Faults.{◌draws◌, drawn}
 use Rattle.market.specs.Orders.{market_order, priced_order}
@@ -65,16 +65,16 @@ sending =
     -- Ready stays so without a failure, Failed for good
     example 410 ((failed_if false (with (num 0) [])).failed ∷ (failed_if false (failed_if true (with (num 0) []))).failed ∷ []) (false ∷ true ∷ []) ∷
     -- pending: a buy of 3 raises it, none to 3 and 2 to 5; other symbols keep theirs
-    example 411 (pending_after [] (buy 1 3)) (some (num 3) ∷ none ∷ []) ∷
-    example 412 (pending_after ((1, num 2) ∷ (2, num 7) ∷ []) (buy 1 3)) (some (num 5) ∷ some (num 7) ∷ []) ∷
+    example 411 (pending_after [] (buy 1 3)) (Some (num 3) ∷ None ∷ []) ∷
+    example 412 (pending_after ((1, num 2) ∷ (2, num 7) ∷ []) (buy 1 3)) (Some (num 5) ∷ Some (num 7) ∷ []) ∷
     -- a sale of 3 lowers it, none to -3 and 5 to 2
-    example 413 (pending_after [] (sell 1 3)) (some (negative 3 1) ∷ none ∷ []) ∷
-    example 414 (pending_after ((1, num 5) ∷ []) (sell 1 3)) (some (num 2) ∷ none ∷ []) ∷
+    example 413 (pending_after [] (sell 1 3)) (Some (negative 3 1) ∷ None ∷ []) ∷
+    example 414 (pending_after ((1, num 5) ∷ []) (sell 1 3)) (Some (num 2) ∷ None ∷ []) ∷
     -- a sum of zero stays present
-    example 415 (pending_after ((1, num 3) ∷ []) (sell 1 3)) (some (num 0) ∷ none ∷ []) ∷
-    example 416 (pending_after ((1, negative 3 1) ∷ []) (buy 1 3)) (some (num 0) ∷ none ∷ []) ∷
+    example 415 (pending_after ((1, num 3) ∷ []) (sell 1 3)) (Some (num 0) ∷ None ∷ []) ∷
+    example 416 (pending_after ((1, negative 3 1) ∷ []) (buy 1 3)) (Some (num 0) ∷ None ∷ []) ∷
     -- cash and holdings do not move
     example 417 ((expected (buy 1 3) (with (num 100) ((1, num 5) ∷ []))).cash ∷ []) (num 100 ∷ []) ∷
-    example 418 ((expected (buy 1 3) (with (num 100) ((1, num 5) ∷ []))).held 1) (some (num 5)) ∷
+    example 418 ((expected (buy 1 3) (with (num 100) ((1, num 5) ∷ []))).held 1) (Some (num 5)) ∷
     -- 10 where the orders taken are as many as the log has rows, before 11 where 1,024 rest and wait; one order fewer passes
     example 419 (room_for 1024 1024 ∷ room_for 2000 1024 ∷ room_for 2000 1023 ∷ room_for 1024 1023 ∷ []) (10 ∷ 11 ∷ 0 ∷ 0 ∷ []) ∷ []

@@ -1,6 +1,6 @@
 -- Cases of document 01, section 2, and of the supplier's 1, 2 and 3. Definitions only.
 use Rattle.std.specs.Prelude.{ℕ, true, false, List, [], ◌∷◌, map}
-use Rattle.std.proofs.Math.Option.{none, some}
+use Rattle.std.specs.Prelude.{None, Some}
 use Rattle.std.specs.Float.{nan, inf}
 use Rattle.market.specs.Faults.{drawn}
 use Rattle.market.specs.Orders.{market_order, priced_order, order_tests}
@@ -43,8 +43,8 @@ tables =
     (map rows_draw ((quote 256 nan (num 10) ∷ []) ∷ (good 2 ∷ quote 1 nan (num 10) ∷ []) ∷ (quote 1 nan (num 10) ∷ good 256 ∷ []) ∷ []))
     (1 ∷ 2 ∷ 2 ∷ []) ∷
     -- the row for a symbol, in the list and in the table by symbol: 7 and 255 have one, 8 has none; 256 reads no other symbol's place
-    example 206 (map (row_for (good 0 ∷ good 7 ∷ good 255 ∷ [])) (7 ∷ 255 ∷ 8 ∷ 256 ∷ [])) (some (good 7) ∷ some (good 255) ∷ none ∷ none ∷ []) ∷
-    example 207 (map (row_at (table_of (good 0 ∷ good 7 ∷ good 255 ∷ []))) (7 ∷ 255 ∷ 8 ∷ 256 ∷ [])) (some (good 7) ∷ some (good 255) ∷ none ∷ none ∷ []) ∷
+    example 206 (map (row_for (good 0 ∷ good 7 ∷ good 255 ∷ [])) (7 ∷ 255 ∷ 8 ∷ 256 ∷ [])) (Some (good 7) ∷ Some (good 255) ∷ None ∷ None ∷ []) ∷
+    example 207 (map (row_at (table_of (good 0 ∷ good 7 ∷ good 255 ∷ []))) (7 ∷ 255 ∷ 8 ∷ 256 ∷ [])) (Some (good 7) ∷ Some (good 255) ∷ None ∷ None ∷ []) ∷
     -- the table by symbol keeps the number of its first bad row: 3, then 1
     example 208 (table_of (good 2 ∷ good 1 ∷ good 256 ∷ [])).fault 3 ∷
     -- weights: any finite one passes, also below zero; 1, 2 and 3

@@ -4,7 +4,8 @@ use Prim.Native.Nat.{ℕ, zero, suc, ◌+◌, ◌<◌, ◌≤◌}
 use mathlib.Core.Path.{◌≡◌, refl, ap, ap₂, sym, subst, ◌∙◌}
 use mathlib.Core.Bool.{Bool, true, false, ◌||◌, true≢false}
 use mathlib.Core.List.{List, [], ◌∷◌, ◌++◌}
-use mathlib.Core.Option.{Option, none, some}
+use Rattle.std.specs.declared.option.Option.{Option}
+use Rattle.std.specs.declared.option.Option.TheVariants.{None, Some}
 use native.Mathlib.Omega.{arith}
 use borrow.Author.Tests.{le-ltb}
 use Rattle.lists.specs.Lists.{All, span, gather, given}
@@ -52,9 +53,9 @@ module _ (rows : List VendorQuote) (drew-none : drawn (vendor_tests rows) ≡ 0)
       later : List Quote
       later = gather (at_symbol rows) (span (suc i) n)
 
-      go : (o : Option VendorQuote) → ((r : VendorQuote) → o ≡ some r → Wins rows i r) → ((m : ℕ) → m ≤ suc i → drawn (table_tests m later) ≡ 0) → drawn (table_tests least (shows o ++ later)) ≡ 0
-      go none f on = on least (omega arith)
-      go (some r) f on =
+      go : (o : Option VendorQuote) → ((r : VendorQuote) → o ≡ Some r → Wins rows i r) → ((m : ℕ) → m ≤ suc i → drawn (table_tests m later) ≡ 0) → drawn (table_tests least (shows o ++ later)) ≡ 0
+      go None f on = on least (omega arith)
+      go (Some r) f on =
           let w = f r refl in
           first-ascends least (quote_of r) later (sound r w.in_rows) (omega (arith, w.of-symbol)) (on (r.symbol + 1) (omega (arith, w.of-symbol)))
 
@@ -86,15 +87,15 @@ module _ (rows : List VendorQuote) where
   unfolding corrected_of
   all-won = all-gather (at_symbol rows) (WonBy rows) (λ s. go s (winner rows s) (winner-wins rows s)) (span 0 256)
     where
-      go : (s : ℕ) (o : Option VendorQuote) → ((r : VendorQuote) → o ≡ some r → Wins rows s r) → All (WonBy rows) (shows o)
-      go s none f = tt
-      go s (some r) f = (record { of-symbol = s; row = r; wins = f r refl; shown-as = refl }, tt)
+      go : (s : ℕ) (o : Option VendorQuote) → ((r : VendorQuote) → o ≡ Some r → Wins rows s r) → All (WonBy rows) (shows o)
+      go s None f = tt
+      go s (Some r) f = (record { of-symbol = s; row = r; wins = f r refl; shown-as = refl }, tt)
 
   won : (q : Quote) → Among q (corrected_of rows) → WonBy rows q
   won q here = all-at (WonBy rows) q (corrected_of rows) all-won here
 
   -- the winner of a symbol is shown
-  winner-shown : (s : ℕ) (w : VendorQuote) → s < 256 → winner rows s ≡ some w → ShownIn (corrected_of rows) s
+  winner-shown : (s : ℕ) (w : VendorQuote) → s < 256 → winner rows s ≡ Some w → ShownIn (corrected_of rows) s
   unfolding corrected_of
   winner-shown s w h e =
       let here : Among (quote_of w) (at_symbol rows s) = rw e (first-among (quote_of w) []) in
@@ -109,8 +110,8 @@ module _ (rows : List VendorQuote) where
     symbol-shown r h = go (winner rows r.symbol) refl
       where
         go : (o : Option VendorQuote) → winner rows r.symbol ≡ o → ShownIn (corrected_of rows) r.symbol
-        go none e = absurd (some-wins rows r h e)
-        go (some w) e = winner-shown r.symbol w (row-ascends 0 (quote_of r) (sound rows drew-none r h)).high e
+        go None e = absurd (some-wins rows r h e)
+        go (Some w) e = winner-shown r.symbol w (row-ascends 0 (quote_of r) (sound rows drew-none r h)).high e
 
     pub corrects : Corrects rows (corrected_of rows)
     corrects =
@@ -132,7 +133,7 @@ module _ (rows : List VendorQuote) (drew-none : drawn (vendor_tests rows) ≡ 0)
       one-row a b same rows (draws-none rows drew-none).unlike h k
 
   -- a row of the one table is a row of the other
-  same_row : (t u : List Quote) → Corrects rows t → Corrects rows u → (s : ℕ) (q : Quote) → row_for t s ≡ some q → row_for u s ≡ some q
+  same_row : (t u : List Quote) → Corrects rows t → Corrects rows u → (s : ℕ) (q : Quote) → row_for t s ≡ Some q → row_for u s ≡ Some q
   same_row t u c d s q e =
       let (here, of) = row_in t s q e in
       let a = c.is-given q here in
@@ -143,7 +144,7 @@ module _ (rows : List VendorQuote) (drew-none : drawn (vendor_tests rows) ≡ 0)
       let y = c.newest q here b.row b.in_rows in
       let one = one-newest a.row b.row a.in_rows b.in_rows symbols x y in
       let same : p.row ≡ q = b.shown-as ∙ ap quote_of (sym one) ∙ sym a.shown-as in
-      ap (row_for u) (sym of) ∙ subst (λ (r : Quote). row_for u r.symbol ≡ some r) same (in_row 0 u p.row d.ascends p.in_table)
+      ap (row_for u) (sym of) ∙ subst (λ (r : Quote). row_for u r.symbol ≡ Some r) same (in_row 0 u p.row d.ascends p.in_table)
 
   pub corrects-once : (t u : List Quote) → Corrects rows t → Corrects rows u → t ≡ u
   corrects-once t u c d = same_rows t u c.ascends d.ascends (same_row t u c d) (same_row u t d c)

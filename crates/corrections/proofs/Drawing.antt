@@ -3,10 +3,11 @@ use Prim.Native.Nat.{ℕ, zero, suc, ◌+◌, ◌≤◌, ◌<◌}
 use native.Mathlib.Omega.{arith}
 use mathlib.Core.Bool.{true, false}
 use mathlib.Core.List.{List, [], ◌∷◌, ◌++◌}
-use mathlib.Core.Option.{Option}
+use Rattle.std.specs.declared.option.Option.{Option}
 use mathlib.Core.Path.{◌≡◌, refl, ap, ap₂, sym, ◌∙◌}
 use borrow.Author.Tests.{lt-ltb, le-ltb, ltb-false}
-use lib.ListN.{take}
+use lib.ListN.{length, take}
+use lib.Seq.{take-length}
 use Rattle.lists.specs.Lists.{span, gather, given}
 use Rattle.market.specs.Faults.{drawn, unless_drawn, ◌draws◌}
 use Rattle.market.specs.Quotes.{listing}
@@ -17,7 +18,6 @@ use Rattle.market.specs.declared.vendor_quote.VendorQuote.{VendorQuote}
 use Rattle.market.proofs.Faults.{drawn-append, none-drawn, test-holds, test-fails, unless-some, unless-none}
 use Rattle.corrections.specs.Corrections.{winner, corrected_of, some_alike, correct_fault, rows_shown, corrected_for}
 use Rattle.corrections.specs.Places.{stands_at, KeepsNewest, listed_from}
-use Rattle.corrections.specs.declared.newest.BySymbol.{BySymbol}
 use Rattle.corrections.proofs.NoneDrawn.{all-numbered}
 use Rattle.corrections.proofs.Rests.{rows_drew}
 
@@ -63,22 +63,13 @@ module _ (room n : ℕ) (rows : List VendorQuote) where
         unfolding drawn
         none_alike e = sym (then-alike ∙ test-fails (some_alike rows) 21 [] e)
 
--- ---- how many rows are gone through: none where a number is drawn
-
-few-by : (fault n : ℕ) → (fault ≡ 0 → n ≤ 1024) → unless_drawn fault n 0 ≤ 1024
-few-by zero n h = h refl
-few-by (suc fault) n h = omega arith
-
-pub few-shown : (room n k : ℕ) (rows : List VendorQuote) → k ≡ unless_drawn (correct_fault room n rows) n 0 → k ≤ 1024
-few-shown room n k rows e = omega (arith, e, few-by (correct_fault room n rows) n (λ z. (none-corrects room n rows z).1))
-
 -- ---- the rows that stand are those that win
 
 same-gather : (f g : ℕ → List Quote) (i n m : ℕ) → ((s : ℕ) → s < m → f s ≡ g s) → i + n ≤ m → gather f (span i n) ≡ gather g (span i n)
 same-gather f g i zero m e h = refl
 same-gather f g i (suc n) m e h = ap₂ (λ (x y : List Quote). x ++ y) (e i (omega arith)) (same-gather f g (suc i) n m e (omega arith))
 
-pub listed-wins : (rows : List VendorQuote) (w : BySymbol) → KeepsNewest rows w → listed_from w ≡ corrected_of rows
+pub listed-wins : (rows : List VendorQuote) (w : List (Option VendorQuote)) → KeepsNewest rows w → listed_from w ≡ corrected_of rows
 unfolding listed_from corrected_of
 listed-wins rows w k =
     same-gather (λ s. given (stands_at w s) [] (λ r. quote_of r ∷ [])) (λ s. given (winner rows s) [] (λ r. quote_of r ∷ [])) 0 256 256
@@ -88,16 +79,14 @@ none-corrected : corrected_of [] ≡ []
 unfolding corrected_of
 none-corrected = refl
 
-shown_by : (fault n : ℕ) (rows : List VendorQuote) → corrected_of (take (unless_drawn fault n 0) rows) ≡ unless_drawn fault (corrected_of (take n rows)) []
-shown_by zero n rows = refl
-shown_by (suc fault) n rows = none-corrected
+shown_by : (fault k : ℕ) (rows : List VendorQuote) → k ≡ unless_drawn fault (length rows) 0 → corrected_of (take k rows) ≡ unless_drawn fault (corrected_of rows) []
+shown_by zero k rows e = rw (e, take-length rows)
+shown_by (suc fault) k rows e = rw e none-corrected
 
-pub corrected-is : (room n k fault : ℕ) (rows : List VendorQuote) (w : BySymbol) (r : QuoteRows) → fault ≡ correct_fault room n (take n rows) → k ≡ unless_drawn fault n 0 →
-    KeepsNewest (take k rows) w → r ≡ listing (listed_from w) fault → r ≡ corrected_for room n (take n rows)
+pub corrected-is : (room k fault : ℕ) (rows : List VendorQuote) (w : List (Option VendorQuote)) (r : QuoteRows) → fault ≡ correct_fault room (length rows) rows →
+    k ≡ unless_drawn fault (length rows) 0 → KeepsNewest (take k rows) w → r ≡ listing (listed_from w) fault → r ≡ corrected_for room (length rows) rows
 unfolding rows_shown corrected_for
-corrected-is room n k fault rows w r is-fault is-k keeps is-r =
-    let shown : listed_from w ≡ unless_drawn fault (corrected_of (take n rows)) [] =
-    listed-wins (take k rows) w keeps ∙ ap (λ (j : ℕ). corrected_of (take j rows)) is-k ∙ shown_by fault n rows in
+corrected-is room k fault rows w r is-fault is-k keeps is-r =
     is-r
-    ∙ ap (λ (l : List Quote). listing l fault) shown
-    ∙ ap (λ (f : ℕ). listing (unless_drawn f (corrected_of (take n rows)) []) f) is-fault
+    ∙ ap (λ (l : List Quote). listing l fault) (listed-wins (take k rows) w keeps ∙ shown_by fault k rows is-k)
+    ∙ ap (λ (f : ℕ). listing (unless_drawn f (corrected_of rows) []) f) is-fault

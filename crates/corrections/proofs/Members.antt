@@ -3,9 +3,10 @@
 use Prim.Native.Nat.{ℕ, zero, suc, ◌+◌, ◌<◌}
 use mathlib.Core.Path.{◌≡◌, refl, ap, subst}
 use mathlib.Core.List.{List, [], ◌∷◌, ◌++◌}
-use mathlib.Core.Option.{some, none-ne-some, some-injective}
+use Rattle.std.specs.declared.option.Option.TheVariants.{Some}
+use Rattle.std.proofs.lemmas.Option.{none-some, same_Some}
 use native.Mathlib.Omega.{arith}
-use lib.ListN.{get_elem?}
+use Rattle.std.specs.Prelude.{slice_get}
 use Rattle.lists.specs.Lists.{All, gather, span}
 use Rattle.corrections.specs.Claims.{Among}
 
@@ -21,8 +22,8 @@ module _ {A : Type 0} where
   pub among-front : (x : A) (l m : List A) → Among x l → Among x (l ++ m)
   among-front x l m h = go l h.place h.there
     where
-      go : (l : List A) (i : ℕ) → get_elem? l i ≡ some x → Among x (l ++ m)
-      go [] i e = absurd (none-ne-some x e)
+      go : (l : List A) (i : ℕ) → slice_get l i ≡ Some x → Among x (l ++ m)
+      go [] i e = absurd (none-some x e)
       go (y ∷ l) zero e = record { place = 0; there = e }
       go (y ∷ l) (suc i) e = later-among x y (l ++ m) (go l i e)
 
@@ -36,9 +37,9 @@ module _ {A : Type 0} where
     pub all-at : (x : A) (l : List A) → All P l → Among x l → P x
     all-at x l a h = go l h.place a h.there
       where
-        go : (l : List A) (i : ℕ) → All P l → get_elem? l i ≡ some x → P x
-        go [] i a e = absurd (none-ne-some x e)
-        go (y ∷ l) zero a e = subst P (some-injective y x e) a.0
+        go : (l : List A) (i : ℕ) → All P l → slice_get l i ≡ Some x → P x
+        go [] i a e = absurd (none-some x e)
+        go (y ∷ l) zero a e = subst P (same_Some y x e) a.0
         go (y ∷ l) (suc i) a e = go l i a.1 e
 
     pub all-by : (l : List A) → ((x : A) → Among x l → P x) → All P l
@@ -63,16 +64,16 @@ module _ {A B : Type 0} (f : A → List B) where
   pub among-gather : (x : B) (a : A) (l : List A) → Among a l → Among x (f a) → Among x (gather f l)
   among-gather x a l h k = go l h.place h.there
     where
-      go : (l : List A) (i : ℕ) → get_elem? l i ≡ some a → Among x (gather f l)
-      go [] i e = absurd (none-ne-some a e)
-      go (b ∷ l) zero e = among-front x (f b) (gather f l) (rw (some-injective b a e) k)
+      go : (l : List A) (i : ℕ) → slice_get l i ≡ Some a → Among x (gather f l)
+      go [] i e = absurd (none-some a e)
+      go (b ∷ l) zero e = among-front x (f b) (gather f l) (rw (same_Some b a e) k)
       go (b ∷ l) (suc i) e = among-back x (f b) (gather f l) (go l i e)
 
 -- ---- numbers from a number on
 
-span-there : (i n k s : ℕ) → k < n → i + k ≡ s → get_elem? (span i n) k ≡ some s
+span-there : (i n k s : ℕ) → k < n → i + k ≡ s → slice_get (span i n) k ≡ Some s
 span-there i zero k s h e = absurd (omega arith)
-span-there i (suc n) zero s h e = ap (λ (j : ℕ). some j) (omega arith)
+span-there i (suc n) zero s h e = ap (λ (j : ℕ). Some j) (omega arith)
 span-there i (suc n) (suc k) s h e = span-there (suc i) n k s (omega arith) (omega arith)
 
 pub among-span : (n k : ℕ) → k < n → Among k (span 0 n)

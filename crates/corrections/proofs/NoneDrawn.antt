@@ -3,8 +3,9 @@ use Prim.Native.Nat.{ℕ, zero, suc}
 use mathlib.Core.Path.{◌≡◌, refl, sym, ◌∙◌}
 use mathlib.Core.Bool.{Bool, true, false, ◌||◌, true≢false}
 use mathlib.Core.List.{List, [], ◌∷◌}
-use mathlib.Core.Option.{some, none-ne-some, some-injective}
-use lib.ListN.{get_elem?}
+use Rattle.std.specs.declared.option.Option.TheVariants.{Some}
+use Rattle.std.proofs.lemmas.Option.{none-some, same_Some}
+use Rattle.std.specs.Prelude.{slice_get}
 use Rattle.lists.specs.Lists.{All, gather}
 use Rattle.market.specs.Faults.{◌draws◌, drawn}
 use Rattle.market.specs.VendorQuotes.{quote_of, vendor_row_tests}
@@ -82,9 +83,9 @@ first-apart r a rows e h =
 
 -- two rows that are alike stand at one place
 module _ (a b : VendorQuote) (same : alike a b ≡ true) where
-  one_place : (rows : List VendorQuote) → some_alike rows ≡ false → (i j : ℕ) → get_elem? rows i ≡ some a → get_elem? rows j ≡ some b → a ≡ b
-  one_place [] n i j e f = absurd (none-ne-some a e)
-  one_place (x ∷ rows) n zero zero e f = sym (some-injective x a e) ∙ some-injective x b f
+  one_place : (rows : List VendorQuote) → some_alike rows ≡ false → (i j : ℕ) → slice_get rows i ≡ Some a → slice_get rows j ≡ Some b → a ≡ b
+  one_place [] n i j e f = absurd (none-some a e)
+  one_place (x ∷ rows) n zero zero e f = sym (same_Some x a e) ∙ same_Some x b f
   one_place (x ∷ rows) n zero (suc j) e f = let d = first-apart x b rows n (record { place = j; there = f }) in cc
   one_place (x ∷ rows) n (suc i) zero e f = let d = first-apart x a rows n (record { place = i; there = e }) in cc (alike-sym a b)
   one_place (x ∷ rows) n (suc i) (suc j) e f = one_place rows (or-false (alike_among x rows) (some_alike rows) n).1 i j e f

@@ -4,7 +4,8 @@ use Prim.Native.Nat.{ℕ}
 use mathlib.Core.Path.{◌≡◌, refl, sym, subst, ◌∙◌}
 use mathlib.Core.Bool.{Bool, true, false, cond, true≢false}
 use mathlib.Core.List.{List, [], ◌∷◌, ◌++◌, append-nil, foldl}
-use mathlib.Core.Option.{Option, none, some}
+use Rattle.std.specs.declared.option.Option.{Option}
+use Rattle.std.specs.declared.option.Option.TheVariants.{None, Some}
 use lib.Dec.{eqb}
 use lib.Seq.{append_snoc}
 use borrow.Author.Tests.{eqb-true, eqb-false, eq-eqb, ne_eqb}
@@ -23,8 +24,8 @@ pub record Wins (rows : List VendorQuote) (s : ℕ) (r : VendorQuote) : Type 0 w
 
 -- what is so of the row that won among the rows so far: where none did, none is of the symbol
 abbrev Best : List VendorQuote → ℕ → Option VendorQuote → Type 0
-Best rows s none = All (λ x. x.symbol ≡ s → ⊥) rows
-Best rows s (some r) = Wins rows s r
+Best rows s None = All (λ x. x.symbol ≡ s → ⊥) rows
+Best rows s (Some r) = Wins rows s r
 
 -- ---- one row more
 
@@ -51,14 +52,14 @@ module _ (rows : List VendorQuote) (s : ℕ) (x : VendorQuote) where
       }
 
   other-symbol : (o : Option VendorQuote) → (x.symbol ≡ s → ⊥) → Best rows s o → Best more s o
-  other-symbol none d b = all_append _ rows (x ∷ []) b (d, tt)
-  other-symbol (some r) d b = still-wins r (rw (ne_eqb x.symbol r.symbol (λ e. d (e ∙ b.of-symbol)))) b
+  other-symbol None d b = all_append _ rows (x ∷ []) b (d, tt)
+  other-symbol (Some r) d b = still-wins r (rw (ne_eqb x.symbol r.symbol (λ e. d (e ∙ b.of-symbol)))) b
 
   same-symbol : (o : Option VendorQuote) → x.symbol ≡ s → Best rows s o → Wins more s (newer_of o x)
-  same-symbol none e b =
+  same-symbol None e b =
       now-wins e
       (all_so (λ y. y.symbol ≡ s → ⊥) (λ y. supersedes y x ≡ false) (λ y d. rw (ne_eqb y.symbol x.symbol (λ k. d (k ∙ e)))) rows b)
-  same-symbol (some r) e b = go (newer x r) refl
+  same-symbol (Some r) e b = go (newer x r) refl
     where
       go : (t : Bool) → newer x r ≡ t → Wins more s (cond t x r)
       go true n =
@@ -74,7 +75,7 @@ module _ (rows : List VendorQuote) (s : ℕ) (x : VendorQuote) where
   step : (o : Option VendorQuote) → Best rows s o → Best more s (winner_step s o x)
   step o b = go (eqb x.symbol s) refl
     where
-      go : (t : Bool) → eqb x.symbol s ≡ t → Best more s (cond t (some (newer_of o x)) o)
+      go : (t : Bool) → eqb x.symbol s ≡ t → Best more s (cond t (Some (newer_of o x)) o)
       go true e = same-symbol o (eqb-true x.symbol s e) b
       go false e = other-symbol o (eqb-false x.symbol s e) b
 
@@ -87,11 +88,11 @@ all-best before (x ∷ rows) s o b =
     (all-best (before ++ (x ∷ [])) rows s (winner_step s o x) (step before s x o b))
 
 best : (rows : List VendorQuote) (s : ℕ) → Best rows s (winner rows s)
-best rows s = all-best [] rows s none tt
+best rows s = all-best [] rows s None tt
 
-pub winner-wins : (rows : List VendorQuote) (s : ℕ) (r : VendorQuote) → winner rows s ≡ some r → Wins rows s r
+pub winner-wins : (rows : List VendorQuote) (s : ℕ) (r : VendorQuote) → winner rows s ≡ Some r → Wins rows s r
 winner-wins rows s r e = subst (Best rows s) e (best rows s)
 
 -- a row that is given has a winner of its symbol
-pub some-wins : (rows : List VendorQuote) (x : VendorQuote) → Among x rows → winner rows x.symbol ≡ none → ⊥
+pub some-wins : (rows : List VendorQuote) (x : VendorQuote) → Among x rows → winner rows x.symbol ≡ None → ⊥
 some-wins rows x h e = all-at (λ y. y.symbol ≡ x.symbol → ⊥) x rows (subst (Best rows x.symbol) e (best rows x.symbol)) h refl

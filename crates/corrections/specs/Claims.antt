@@ -1,7 +1,7 @@
 -- What request 5 of document 02 says of the table, sentence by sentence. Definitions only.
 use Rattle.std.specs.Prelude.{ℕ, false, List, [], ◌∷◌, ◌≡◌}
-use Rattle.std.proofs.Math.Option.{some}
-use Rattle.std.proofs.Math.ListN.{get_elem?}
+use Rattle.std.specs.Prelude.{Some}
+use Rattle.std.specs.Prelude.{slice_get}
 use Rattle.market.specs.Faults.{drawn}
 use Rattle.market.specs.Quotes.{table_tests}
 use Rattle.market.specs.VendorQuotes.{quote_of}
@@ -12,7 +12,7 @@ use Rattle.corrections.specs.Corrections.{supersedes, corrected_of, vendor_tests
 -- x stands in l, at some place
 pub record Among {A : Type 0} (x : A) (l : List A) : Type 0 where
   pub place : ℕ
-  pub there : get_elem? l place ≡ some x
+  pub there : slice_get l place ≡ Some x
 
 -- a row of the table that has this symbol
 pub record ShownIn (table : List Quote) (symbol : ℕ) : Type 0 where

@@ -1,8 +1,9 @@
 -- Corrected quotes: document 02, request 5, over document 01's rows of quotes. Definitions only.
 use Rattle.std.specs.Prelude.{ℕ, Bool, false, ◌&&◌, ◌||◌, cond, ltb, eqb, ℤ, pos, negsuc}
 use mathlib.Core.List.{List, [], ◌∷◌, ◌++◌, foldl}
-use Rattle.std.proofs.Math.Option.{Option, none, some}
+use Rattle.std.specs.Prelude.{Option, None, Some}
 use Rattle.std.specs.Int.Signed.{lt_z}
+use Rattle.std.specs.List.{list_any}
 use Rattle.lists.specs.Lists.{span, gather, given}
 use Rattle.market.specs.Faults.{Test, ◌draws◌, drawn, unless_drawn}
 use Rattle.market.specs.Quotes.{listing}
@@ -30,16 +31,16 @@ supersedes a b = eqb a.symbol b.symbol && newer a b
 
 -- of two rows of a symbol the later given stands where it is newer
 abbrev pub newer_of : Option VendorQuote → VendorQuote → VendorQuote
-newer_of none r = r
-newer_of (some a) r = cond (newer r a) r a
+newer_of None r = r
+newer_of (Some a) r = cond (newer r a) r a
 
 -- a row of the symbol s is held against the one that stands; rows of other symbols are passed over
 abbrev pub winner_step : ℕ → Option VendorQuote → VendorQuote → Option VendorQuote
-winner_step s o r = cond (eqb r.symbol s) (some (newer_of o r)) o
+winner_step s o r = cond (eqb r.symbol s) (Some (newer_of o r)) o
 
 -- the row that wins among those given of a symbol, gone through in order
 abbrev pub winner : List VendorQuote → ℕ → Option VendorQuote
-winner rows s = foldl (winner_step s) none rows
+winner rows s = foldl (winner_step s) None rows
 
 -- one table: for each symbol from 0 to 255 the row that wins, if one is given
 unfoldable pub corrected_of : List VendorQuote → List Quote
@@ -53,8 +54,7 @@ alike a b = eqb a.symbol b.symbol && same_date a.date b.date && eqb a.revision b
 
 -- a row like r among these
 abbrev pub alike_among : VendorQuote → List VendorQuote → Bool
-alike_among r [] = false
-alike_among r (a ∷ rows) = alike r a || alike_among r rows
+alike_among r rows = list_any (alike r) rows
 
 -- some two rows alike, wherever they stand
 abbrev pub some_alike : List VendorQuote → Bool

@@ -8,24 +8,12 @@ use market::vendor_quote::VendorQuote;
 pub fn newer(a: VendorQuote, b: VendorQuote) -> bool
     ensures { result ≡ newer a b }
 {
-    if a.date > b.date {
-        return true;
-    }
-    if a.date < b.date {
-        return false;
-    }
-    a.revision > b.revision
+    (a.date, a.revision) > (b.date, b.revision)
 }
 
 // Are two rows alike in symbol, date and revision?
 pub fn alike(a: VendorQuote, b: VendorQuote) -> bool
     ensures { result ≡ alike a b }
 {
-    if a.symbol != b.symbol {
-        return false;
-    }
-    if a.date != b.date {
-        return false;
-    }
-    a.revision == b.revision
+    (a.symbol, a.date, a.revision) == (b.symbol, b.date, b.revision)
 }

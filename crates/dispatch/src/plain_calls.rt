@@ -1,65 +1,17 @@
-// The calls that need no lent list: they run by value, and what they answer is put by report.
+// The calls that change nothing and are answered by no list.
 use broker::read::FloatRead;
 use broker::state::UistBroker;
 use calls::call::Call;
 use calls::verb::Verb;
 use report::answer::Reply;
 
-// The broker after a call, and what it answers.
-#[derive(Clone, Copy)]
-pub struct Changed {
-    pub broker: UistBroker,
-    pub reply: Reply,
-}
-
-fn liquidate_call(b: UistBroker, c: Call) -> Changed {
-    let x = b.withdraw_cash_with_liquidation(c.amount);
-    let broker = x.broker;
-    let event = x.event;
-    Changed {
-        broker: broker,
-        reply: Reply::Cash(event),
-    }
-}
-
-fn insert_call(b: UistBroker, c: Call) -> Changed {
-    let x = b.insert_order(c.order);
-    let broker = x.broker;
-    let event = x.event;
-    Changed {
-        broker: broker,
-        reply: Reply::Event(event),
-    }
-}
-
-fn delete_call(b: UistBroker, c: Call) -> Changed {
-    let x = b.delete_order(c.whole);
-    let broker = x.broker;
-    Changed {
-        broker: broker,
-        reply: Reply::Deleted(x.fault),
-    }
-}
-
-// A liquidation, an insertion, or a deletion. Deposits, withdrawals and sends are made in the run's
-// own loop.
-pub fn changing_call(b: UistBroker, c: Call) -> Changed {
-    let verb = c.verb;
-    match verb {
-        Verb::Liquidate => liquidate_call(b, c),
-        Verb::Insert => insert_call(b, c),
-        _ => delete_call(b, c),
-    }
-}
-
-fn rounded(x: f64) -> Reply {
-    Reply::Float(FloatRead { value: x, fault: 0 })
+fn rounded(value: f64) -> Reply {
+    Reply::Float(FloatRead { value, fault: 0 })
 }
 
 // The reads of no symbol, and rounding.
-fn figure_call(b: UistBroker, c: Call) -> Reply {
-    let verb = c.verb;
-    match verb {
+fn figure(b: &UistBroker, c: &Call) -> Reply {
+    match c.verb {
         Verb::GetTotalValue => Reply::Float(b.get_total_value()),
         Verb::GetLiquidationValue => Reply::Float(b.get_liquidation_value()),
         Verb::GetCashBalance => Reply::Float(b.get_cash_balance()),
@@ -75,9 +27,8 @@ fn figure_call(b: UistBroker, c: Call) -> Reply {
 }
 
 // A call that changes nothing and is answered by no list.
-pub fn asking_call(b: UistBroker, c: Call) -> Reply {
-    let verb = c.verb;
-    match verb {
+pub fn ask(b: &UistBroker, c: &Call) -> Reply {
+    match c.verb {
         Verb::GetQuote => Reply::Quote(b.get_quote(c.symbol)),
         Verb::GetPositionQty => Reply::Amount(b.get_position_qty(c.symbol)),
         Verb::GetPendingOrder => Reply::Amount(b.get_pending_order(c.symbol)),
@@ -85,6 +36,6 @@ pub fn asking_call(b: UistBroker, c: Call) -> Reply {
         Verb::GetPositionLiquidationValue => {
             Reply::Amount(b.get_position_liquidation_value(c.symbol))
         }
-        _ => figure_call(b, c),
+        _ => figure(b, c),
     }
 }

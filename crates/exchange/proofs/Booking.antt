@@ -1,14 +1,14 @@
--- The loop that books the waiting orders, sells first. Assumes nothing.
-use Rattle.std.proofs.Common.{◌≡◌, ℕ, suc, ◌+◌, ◌-◌, ◌<◌, ◌≤◌, Bool, true, false, cond, ltb, List, [], ◌∷◌, ◌++◌, length, get_or, take, drop, set, sym, refl, ap, ◌∙◌, append_assoc, append-nil, add-one, arith, length-append, length-set, length-take, drop-cons, take-suc-set, drop-set-lt, ltb-false, ltb-true, le-ltb}
+-- The loop that books the waiting orders of a side. Assumes nothing.
+use Rattle.std.proofs.Common.{◌≡◌, ℕ, suc, ◌+◌, ◌-◌, ◌<◌, ◌≤◌, Bool, true, false, cond, List, [], ◌∷◌, ◌++◌, length, get_or, take, drop, set, sym, refl, ap, ◌∙◌, append_assoc, append-nil, add-one, arith, length-append, length-set, length-take, drop-cons, take-suc-set, drop-set-lt}
 use mathlib.Core.Bool.{beq}
-use lib.ListN.{length-map}
+use lib.ListN.{length-map, drop_of_length-le}
+use Rattle.orders.proofs.Sides.{sides}
 use Rattle.lists.specs.Lists.{over}
 use Rattle.lists.proofs.Over.{take-over, over-take, over-over}
 use Rattle.market.specs.Orders.{is_sell}
 use Rattle.market.specs.declared.order.Order.{Order}
-use Rattle.orders.proofs.Sides.{sides}
 use Rattle.exchange.specs.State.{booked_as}
-use Rattle.exchange.specs.Tick.{orders_in, of_side, sells_first, next, number_from, counter_after, book_side_of, book_waiting_of, waiting_place}
+use Rattle.exchange.specs.Tick.{orders_in, of_side, side_of, next, number_from, counter_after, book_side_of}
 use Rattle.exchange.specs.declared.state.Booked.{Booked}
 use Rattle.exchange.specs.declared.tick.Booking.{Booking}
 use Rattle.exchange.proofs.Executing.{no_booked}
@@ -26,12 +26,6 @@ numbers-append n (o ∷ l) m = ap (λ (z : List Booked). booked_as n o ∷ z) (n
 pub counter-append : (n : ℕ) (l m : List Order) → counter_after n (l ++ m) ≡ counter_after (counter_after n l) m
 counter-append n [] m = refl
 counter-append n (o ∷ l) m = counter-append (next n) l m
-
--- ---- how many there are
-
--- no more orders stand between two places than there are places
-pub length-orders : (book : List Booked) (from until : ℕ) → length (orders_in book from until) ≤ until - from
-length-orders book from until = omega (arith, length-map (take (until - from) (drop from book)) (λ (b : Booked). b.order), length-take (until - from) (drop from book))
 
 -- ---- one booking after another
 
@@ -74,177 +68,85 @@ booked-behind k book n l =
     let q : length k + length l ≡ length (k ++ number_from n l) = omega (arith, length-append k (number_from n l), length-numbers n l) in
     cc
 
--- ---- the loop: a turn looks at one waiting order, a first time for the sells and a second for the buys
+-- the orders of two lists, one after the other
+booked-both : (k book : List Booked) (n : ℕ) (l m : List Order) →
+    book_side_of (book_side_of (record { book = over k book; at = length k; ids = n }) l) m
+    ≡ record { book = over (k ++ number_from n (l ++ m)) book; at = length (k ++ number_from n (l ++ m)); ids = counter_after n (l ++ m) }
+booked-both k book n l m =
+    ap (λ (b : Booking). book_side_of b m) (booked-behind k book n l)
+    ∙ booked-behind (k ++ number_from n l) book (counter_after n l) m
+    ∙ rw (numbers-append n l m, counter-append n l m, append_assoc k (number_from n l) (number_from (counter_after n l) m))
 
--- the first order of those that are left
-orders-first : (old : List Booked) (i until : ℕ) → i < until → i < length old → orders_in old i until ≡ (get_or old i no_booked).order ∷ orders_in old (i + 1) until
-orders-first old i until h k =
-    let e : until - i ≡ suc (until - (i + 1)) = omega arith in
-    rw (e, drop-cons old i no_booked k, add-one)
+-- how far a booking goes
+pub side-after : (b b' : Booking) (l : List Order) → b' ≡ book_side_of b l → b'.at ≡ b.at + length l
+unfolding book_side_of
+side-after b b' l e = ap (λ (x : Booking). x.at) e
 
--- the orders of one side among the first o and the later ones
-side-first : (sells : Bool) (o : Order) (l : List Order) (t : Bool) → beq (is_sell o.kind) sells ≡ t → of_side sells (o ∷ l) ≡ cond t (o ∷ of_side sells l) (of_side sells l)
-side-first sells o l t e = ap (λ (x : Bool). cond x (o ∷ of_side sells l) (of_side sells l)) e
+-- the same of any booking
+pub book-append : (b : Booking) (l m : List Order) → b.at ≤ length b.book → book_side_of (book_side_of b l) m ≡ book_side_of b (l ++ m)
+book-append b l m h =
+    let k = take b.at b.book in
+    let low : length k ≡ b.at = simp length-take (omega arith) in
+    let same : b ≡ record { book = over k b.book; at = length k; ids = b.ids } = same-booking _ _ (sym (over-take b.at b.book)) (sym low) refl in
+    ap (λ (x : Booking). book_side_of (book_side_of x l) m) same
+    ∙ booked-both k b.book b.ids l m
+    ∙ sym (ap (λ (x : Booking). book_side_of x (l ++ m)) same ∙ booked-behind k b.book b.ids (l ++ m))
 
-none_from : (old : List Booked) (n : ℕ) → orders_in old n n ≡ []
-none_from old n =
-    let e : n - n ≡ 0 = omega arith in
-    rw e
+-- no more orders stand between two places than there are places
+pub length-orders : (book : List Booked) (from until : ℕ) → length (orders_in book from until) ≤ until - from
+length-orders book from until = omega (arith, length-map (take (until - from) (drop from book)) (λ (b : Booked). b.order), length-take (until - from) (drop from book))
 
-cond-append : (t : Bool) (o : Order) (l m : List Order) → cond t (o ∷ l) l ++ m ≡ cond t (o ∷ (l ++ m)) (l ++ m)
-cond-append true o l m = refl
-cond-append false o l m = refl
+-- the sides of the waiting orders have places
+pub sides-fit : (old : List Booked) (from waits at : ℕ) → from + waits ≤ 1024 → at ≤ from →
+    at + (length (of_side true (orders_in old from (from + waits))) + length (of_side false (orders_in old from (from + waits)))) ≤ 1024
+sides-fit old from waits at h k = omega (arith, sides (orders_in old from (from + waits)), length-orders old from (from + waits))
 
-module _ (old : List Booked) (from n : ℕ) where
-  -- the orders that the turns from k on book
-  abbrev pub left : ℕ → List Order
-  left k =
-      cond (ltb k n)
-      (of_side true (orders_in old (from + k) (from + n)) ++ of_side false (orders_in old from (from + n)))
-      (of_side false (orders_in old (from + (k - n)) (from + n)))
+-- ---- the loop: the orders that are left, booked behind those that are, make the whole
 
-  sells-left : (k : ℕ) → k ≤ n → left k ≡ of_side true (orders_in old (from + k) (from + n)) ++ of_side false (orders_in old from (from + n))
-  sells-left k h = sells-by k h (ltb k n) refl
-    where
-      sells-by : (k : ℕ) → k ≤ n → (b : Bool) → ltb k n ≡ b →
-          cond b (of_side true (orders_in old (from + k) (from + n)) ++ of_side false (orders_in old from (from + n))) (of_side false (orders_in old (from + (k - n)) (from + n)))
-          ≡ of_side true (orders_in old (from + k) (from + n)) ++ of_side false (orders_in old from (from + n))
-      sells-by k h true e = refl
-      sells-by k h false e =
-          let same : k ≡ n = omega (arith, ltb-false k n e) in
-          let zero-past : from + (k - n) ≡ from = omega arith in
-          let all : from + k ≡ from + n = omega arith in
-          rw (zero-past, all, none_from)
+-- the orders of the side from a turn's on
+abbrev left : Bool → List Booked → ℕ → List Order
+left sells waiting k = side_of sells (drop k waiting)
 
-  buys-left : (k : ℕ) → n ≤ k → left k ≡ of_side false (orders_in old (from + (k - n)) (from + n))
-  buys-left k h = ap (λ (b : Bool). cond b (of_side true (orders_in old (from + k) (from + n)) ++ of_side false (orders_in old from (from + n))) (of_side false (orders_in old (from + (k - n)) (from + n)))) (le-ltb k n h)
-
-  -- at first the sells and then the buys are left, at last none
-  pub all_left : left 0 ≡ sells_first (orders_in old from (from + n))
-  all_left =
-      let e : from + 0 ≡ from = omega arith in
-      sells-left 0 (omega arith) ∙ ap (λ (m : ℕ). of_side true (orders_in old m (from + n)) ++ of_side false (orders_in old from (from + n))) e
-
-  pub none_left : (k : ℕ) → n + n ≤ k → k ≤ n + n → left k ≡ []
-  none_left k h u =
-      let e : from + (k - n) ≡ from + n = omega arith in
-      buys-left k (omega arith) ∙ rw (e, none_from)
-
-  -- a turn looks at a place of the book
-  pub seen-within : (k : ℕ) → from + n ≤ 1024 → k < n + n → waiting_place from n k < 1024
-  seen-within k small h = within_by (ltb k n) refl
-    where
-      within_by : (b : Bool) → ltb k n ≡ b → cond b (from + k) (from + (k - n)) < 1024
-      within_by true e = omega (arith, ltb-true k n e)
-      within_by false e = omega (arith, ltb-false k n e)
-
-  -- a turn's order
-  abbrev pub seen : ℕ → Order
-  seen k = (get_or old (waiting_place from n k) no_booked).order
-
-  seen_by : (k : ℕ) (m : ℕ) → waiting_place from n k ≡ m → seen k ≡ (get_or old m no_booked).order
-  seen_by k m e = ap (λ (i : ℕ). (get_or old i no_booked).order) e
-
-  pub left-first : (k : ℕ) (t : Bool) → length old ≡ 1024 → from + n ≤ 1024 → k < n + n → beq (is_sell (seen k).kind) (ltb k n) ≡ t →
-      left k ≡ cond t (seen k ∷ left (k + 1)) (left (k + 1))
-  left-first k t long small h e = first_by k t long small h (ltb k n) refl e
-    where
-      first_by : (k : ℕ) (t : Bool) → length old ≡ 1024 → from + n ≤ 1024 → k < n + n → (b : Bool) → ltb k n ≡ b → beq (is_sell (seen k).kind) (ltb k n) ≡ t →
-          left k ≡ cond t (seen k ∷ left (k + 1)) (left (k + 1))
-      first_by k t long small h true b e =
-          let low : k < n = ltb-true k n b in
-          let place : waiting_place from n k ≡ from + k = ap (λ (x : Bool). cond x (from + k) (from + (k - n))) b in
-          let buys = of_side false (orders_in old from (from + n)) in
-          let l = orders_in old (from + k + 1) (from + n) in
-          let side : beq (is_sell (seen k).kind) true ≡ t = ap (λ (x : Bool). beq (is_sell (seen k).kind) x) (sym b) ∙ e in
-          let step : orders_in old (from + k) (from + n) ≡ seen k ∷ l
-          = orders-first old (from + k) (from + n) (omega arith) (omega arith) ∙ ap (λ (o : Order). o ∷ l) (sym (seen_by k (from + k) place)) in
-          let shift : from + k + 1 ≡ from + (k + 1) = omega arith in
-          let next-left : left (k + 1) ≡ of_side true l ++ buys
-          = sells-left (k + 1) (omega arith) ∙ ap (λ (m : ℕ). of_side true (orders_in old m (from + n)) ++ buys) (sym shift) in
-          sells-left k (omega arith)
-          ∙ ap (λ (z : List Order). of_side true z ++ buys) step
-          ∙ ap (λ (z : List Order). z ++ buys) (side-first true (seen k) l t side)
-          ∙ cond-append t (seen k) (of_side true l) buys
-          ∙ ap (λ (z : List Order). cond t (seen k ∷ z) z) (sym next-left)
-      first_by k t long small h false b e =
-          let high : n ≤ k = ltb-false k n b in
-          let place : waiting_place from n k ≡ from + (k - n) = ap (λ (x : Bool). cond x (from + k) (from + (k - n))) b in
-          let l = orders_in old (from + (k - n) + 1) (from + n) in
-          let side : beq (is_sell (seen k).kind) false ≡ t = ap (λ (x : Bool). beq (is_sell (seen k).kind) x) (sym b) ∙ e in
-          let step : orders_in old (from + (k - n)) (from + n) ≡ seen k ∷ l
-          = orders-first old (from + (k - n)) (from + n) (omega arith) (omega arith) ∙ ap (λ (o : Order). o ∷ l) (sym (seen_by k (from + (k - n)) place)) in
-          let shift : from + (k - n) + 1 ≡ from + (k + 1 - n) = omega arith in
-          let next-left : left (k + 1) ≡ of_side false l = buys-left (k + 1) (omega arith) ∙ ap (λ (m : ℕ). of_side false (orders_in old m (from + n))) (sym shift) in
-          buys-left k high
-          ∙ ap (of_side false) step
-          ∙ side-first false (seen k) l t side
-          ∙ ap (λ (z : List Order). cond t (seen k ∷ z) z) (sym next-left)
-
--- the orders of the turns from k on, booked behind those of b, make the whole
-pub record Inv (old : List Booked) (from n : ℕ) (whole b : Booking) (k : ℕ) : Type 0 where
-  pub within : k ≤ n + n
-  pub small : from + n ≤ 1024
-  pub long : length old ≡ 1024
+pub record Inv (sells : Bool) (waiting : List Booked) (whole b : Booking) (k : ℕ) : Type 0 where
   pub wide : length b.book ≡ 1024
-  pub room : b.at + length (left old from n k) ≤ 1024
-  pub rest : book_side_of b (left old from n k) ≡ whole
+  pub room : b.at + length (left sells waiting k) ≤ 1024
+  pub rest : book_side_of b (left sells waiting k) ≡ whole
 
-pub waiting-start : (old : List Booked) (from n : ℕ) (b : Booking) → length old ≡ 1024 → length b.book ≡ 1024 → from + n ≤ 1024 → b.at ≤ from →
-    Inv old from n (book_waiting_of old from n b) b 0
-unfolding book_waiting_of
-waiting-start old from n b long wide small h =
-    let l = orders_in old from (from + n) in
-    let few : length (sells_first l) ≤ n = omega (arith, sides l, length-orders old from (from + n), length-append (of_side true l) (of_side false l)) in
-    record {
-      within = omega arith;
-      small = small;
-      long = long;
-      wide = wide;
-      room = omega (arith, few, ap length (all_left old from n));
-      rest = ap (book_side_of b) (all_left old from n);
-    }
-
-module _ (old : List Booked) (from n : ℕ) (whole b : Booking) (k : ℕ) (v : Inv old from n whole b k) (h : k < n + n) where
+module _ (sells : Bool) (waiting : List Booked) (whole b : Booking) (k : ℕ) (v : Inv sells waiting whole b k) (h : k < length waiting) where
   abbrev here : Order
-  here = seen old from n k
+  here = (get_or waiting k no_booked).order
 
-  abbrev later : List Order
-  later = left old from n (k + 1)
-
-  side-by : (t : Bool) → beq (is_sell here.kind) (ltb k n) ≡ t → left old from n k ≡ cond t (here ∷ later) later
-  side-by t e = left-first old from n k t v.long v.small h e
+  left-first : (t : Bool) → beq (is_sell here.kind) sells ≡ t → left sells waiting k ≡ cond t (here ∷ left sells waiting (k + 1)) (left sells waiting (k + 1))
+  left-first t e =
+      let first : drop k waiting ≡ get_or waiting k no_booked ∷ drop (k + 1) waiting = rw (drop-cons waiting k no_booked h, add-one) in
+      ap (side_of sells) first ∙ ap (λ (x : Bool). cond x (here ∷ left sells waiting (k + 1)) (left sells waiting (k + 1))) e
 
   -- there is a place for an order of the side
-  pub place-left : beq (is_sell here.kind) (ltb k n) ≡ true → b.at < 1024
-  place-left t = omega (arith, ap length (side-by true t), v.room)
+  pub place-left : beq (is_sell here.kind) sells ≡ true → b.at < 1024
+  place-left t = omega (arith, ap length (left-first true t), v.room)
 
-  pub books-one : (b' : Booking) → beq (is_sell here.kind) (ltb k n) ≡ true → b' ≡ booked_one b here → Inv old from n whole b' (k + 1)
+  pub books-one : (b' : Booking) → beq (is_sell here.kind) sells ≡ true → b' ≡ booked_one b here → Inv sells waiting whole b' (k + 1)
   books-one b' t e =
       let x : Booked = booked_as b.ids here in
       let low : b.at < length b.book = omega (arith, place-left t, v.wide) in
       let a : b'.at ≡ b.at + 1 = ap (λ (y : Booking). y.at) e in
       record {
-        within = omega arith;
-        small = v.small;
-        long = v.long;
         wide = ap (λ (y : Booking). length y.book) e ∙ length-set b.book b.at x ∙ v.wide;
-        room = omega (arith, ap length (side-by true t), v.room);
-        rest = ap (λ (y : Booking). book_side_of y later) e ∙ sym (book-one b here later low) ∙ ap (book_side_of b) (sym (side-by true t)) ∙ v.rest;
+        room = omega (arith, ap length (left-first true t), v.room);
+        rest = ap (λ (y : Booking). book_side_of y (left sells waiting (k + 1))) e ∙ sym (book-one b here (left sells waiting (k + 1)) low) ∙ ap (book_side_of b) (sym (left-first true t)) ∙ v.rest;
       }
 
-  pub passes-one : (b' : Booking) → beq (is_sell here.kind) (ltb k n) ≡ false → b' ≡ b → Inv old from n whole b' (k + 1)
+  pub passes-one : (b' : Booking) → beq (is_sell here.kind) sells ≡ false → b' ≡ b → Inv sells waiting whole b' (k + 1)
   passes-one b' t e =
       let a : b'.at ≡ b.at = ap (λ (y : Booking). y.at) e in
       record {
-        within = omega arith;
-        small = v.small;
-        long = v.long;
         wide = ap (λ (y : Booking). length y.book) e ∙ v.wide;
-        room = omega (arith, ap length (side-by false t), v.room);
-        rest = ap (λ (y : Booking). book_side_of y later) e ∙ ap (book_side_of b) (sym (side-by false t)) ∙ v.rest;
+        room = omega (arith, ap length (left-first false t), v.room);
+        rest = ap (λ (y : Booking). book_side_of y (left sells waiting (k + 1))) e ∙ ap (book_side_of b) (sym (left-first false t)) ∙ v.rest;
       }
 
 -- at the loop's end nothing is left
-pub waiting-booked : (old : List Booked) (from n : ℕ) (whole b : Booking) (k : ℕ) → Inv old from n whole b k → n + n ≤ k → b ≡ whole
-waiting-booked old from n whole b k v h = sym (book-none b) ∙ ap (book_side_of b) (sym (none_left old from n k h v.within)) ∙ v.rest
+pub side-booked : (sells : Bool) (waiting : List Booked) (whole b : Booking) (k : ℕ) → Inv sells waiting whole b k → length waiting ≤ k → b ≡ whole
+side-booked sells waiting whole b k v h =
+    let none : drop k waiting ≡ [] = drop_of_length-le waiting h in
+    sym (book-none b) ∙ ap (λ (l : List Booked). book_side_of b (side_of sells l)) (sym none) ∙ v.rest

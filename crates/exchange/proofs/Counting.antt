@@ -1,5 +1,5 @@
 -- What counts that hold together obey. Assumes nothing.
-use Rattle.std.proofs.Common.{◌≡◌, ℕ, ◌+◌, ◌-◌, ◌<◌, ◌≤◌, Bool, true, false, not, ◌&&◌, ◌||◌, eqb, ltb, [], ◌∷◌, set, sym, refl, ap, ◌∙◌, ap₂, arith, ltb-false, ltb-true, le-ltb, lt-ltb, eqb-true}
+use Rattle.std.proofs.Common.{◌≡◌, ℕ, ◌+◌, ◌<◌, ◌≤◌, Bool, true, false, not, ◌||◌, eqb, ltb, [], ◌∷◌, set, sym, refl, ap, ◌∙◌, ap₂, arith, ltb-false, le-ltb, lt-ltb, eqb-true}
 use borrow.Author.Tests.{eqb-false}
 use Rattle.market.specs.Faults.{◌draws◌, drawn}
 use Rattle.market.specs.Orders.{order_tests}
@@ -46,16 +46,13 @@ pub sound-not-broken : {c : Counts} → Sound c → broken_of c ≡ false
 sound-not-broken s =
     simp (le-ltb _ _ s.logs, le-ltb _ _ s.bounded, le-ltb _ _ s.numbers, le-ltb _ _ s.together)
 
-true-by : (b : Bool) → (b ≡ false → ⊥) → b ≡ true
-true-by true n = refl
-true-by false n = absurd (n refl)
-
-pub unsound-broken : (c : Counts) → (Sound c → ⊥) → broken_of c ≡ true
-unsound-broken c n = true-by (broken_of c) (λ h. n (sound-facts c h))
-
 -- the same by the number
 pub fault-sound : (c : Counts) → broken_fault c ≡ 0 → Sound c
 fault-sound c e = sound-facts c (none-drawn (broken_of c) 15 [] e).0
+
+-- of such counts no more orders rest than the book has places
+pub few_rest : (c : Counts) → broken_fault c ≡ 0 → c.resting ≤ 1024
+few_rest c e = omega (arith, (fault-sound c e).together)
 
 pub sound-fault : {c : Counts} → Sound c → broken_fault c ≡ 0
 unfolding drawn
@@ -72,17 +69,6 @@ log_facts c n e =
       eqb-true n c.room (not-false _ (or_left (not (eqb n c.room)) (broken_of c) h)),
       or_right (not (eqb n c.room)) (broken_of c) h,
     )
-
--- the last test decides where the others passed
-same_test : (a b : Bool) → (a ≡ true → b ≡ true) → (a ≡ false → b ≡ false) → a ≡ b
-same_test true b t f = sym (t refl)
-same_test false b t f = sym (f refl)
-
-pub broken-last : (c : Counts) → c.resting + c.waits ≤ 1024 → c.taken ≤ c.room → c.ids ≤ c.taken → c.logged ≤ c.taken → ltb (c.taken - c.logged) (c.resting + c.waits) ≡ broken_of c
-broken-last c t b n l =
-    same_test (ltb (c.taken - c.logged) (c.resting + c.waits)) (broken_of c)
-    (λ h. let k = ltb-true (c.taken - c.logged) (c.resting + c.waits) h in unsound-broken c (λ s. omega (arith, s.logs)))
-    (λ h. let k = ltb-false (c.taken - c.logged) (c.resting + c.waits) h in sound-not-broken (record { together = t; bounded = b; numbers = n; logs = omega arith }))
 
 -- ---- 10 and 11
 
@@ -110,22 +96,6 @@ insert-facts c o e =
 pub record Free (c : Counts) : Type 0 where
   pub place : c.resting + c.waits < book_width
   pub row : c.taken < c.room
-
-and_left : (a b : Bool) → a && b ≡ true → a ≡ true
-and_left true b h = refl
-and_left false b h = h
-
-and_right : (a b : Bool) → a && b ≡ true → b ≡ true
-and_right true b h = h
-and_right false true h = refl
-and_right false false h = h
-
-pub free-facts : (c : Counts) → has_room c ≡ true → Free c
-free-facts c h =
-    record {
-      place = ltb-true _ _ (and_left (ltb (c.resting + c.waits) book_width) _ h);
-      row = ltb-true _ _ (and_right (ltb (c.resting + c.waits) book_width) _ h);
-    }
 
 pub has_room-free : {c : Counts} → Free c → has_room c ≡ true
 has_room-free {c} f = simp (lt-ltb (c.resting + c.waits) book_width f.place, lt-ltb c.taken c.room f.row)

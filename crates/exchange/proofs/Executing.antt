@@ -1,43 +1,30 @@
 -- The loop that trades the resting orders. Assumes nothing.
-use Rattle.std.proofs.Common.{◌≡◌, ℕ, suc, ◌+◌, ◌%◌, ◌<◌, ◌≤◌, Bool, true, false, cond, ltb, List, [], ◌∷◌, ◌++◌, length, get_or, take, set, sym, refl, ap, ◌∙◌, append-nil, arith, length-append, length-take}
-use mathlib.Core.Option.{Option, none, some}
+use Rattle.std.proofs.Common.{◌≡◌, ℕ, suc, ◌+◌, ◌<◌, ◌≤◌, true, false, cond, List, [], ◌∷◌, ◌++◌, length, get_or, take, set, sym, refl, ap, ◌∙◌, append-nil, arith, length-append, length-take}
+use Rattle.std.specs.declared.option.Option.{Option}
+use Rattle.std.specs.declared.option.Option.TheVariants.{None, Some}
 use lib.Ieee.{nan}
 use Rattle.lists.specs.Lists.{over, keep, given, holds}
 use Rattle.lists.proofs.Over.{over-read, over-more}
 use Rattle.lists.proofs.Keep.{keep-more, keep-less, gather-more}
-use Rattle.market.specs.Quotes.{no_quote, row_at}
-use Rattle.market.specs.Trades.{row_if, trade_on, trade_in}
+use Rattle.market.specs.Quotes.{row_at}
 use Rattle.market.specs.declared.order.OrderType.TheVariants.{MarketSell}
-use Rattle.market.specs.declared.order.Order.{Order}
 use Rattle.market.specs.declared.quote.Quote.{Quote}
 use Rattle.market.specs.declared.table.Table.{Table}
 use Rattle.market.specs.declared.trade.Trade.{Trade}
-use Rattle.market.specs.declared.trade.Fill.{Fill}
-use Rattle.market.proofs.Tables.{row_listed}
 use Rattle.exchange.specs.Tick.{no_trades, trade_at, stays, trades_of, execute_of}
 use Rattle.exchange.specs.declared.state.Booked.{Booked}
 use Rattle.exchange.specs.declared.tick.Executed.{Executed}
 
 -- what a read past the end of an array of booked orders gives; no code reads there
 abbrev pub no_booked : Booked
-no_booked = record { id = 0; order = record { kind = MarketSell; priced = false; symbol = 0; shares = nan; price = nan } }
-
--- ---- the row for a symbol
-
--- what an order does on the row that the code reads is what it does on the table
-pub fill-at : (t : Table) (o : Order) (p : Bool) (f : Fill) → p ≡ cond (ltb o.symbol 256) (get_or t.present (o.symbol % 256) false) false →
-    trade_in f ≡ trade_on (row_if p (get_or t.rows (o.symbol % 256) no_quote)) o → trade_at (row_at t) o ≡ trade_in f
-fill-at t o p f e h =
-    ap (λ (r : Option Quote). trade_on r o) (sym (row_listed t o.symbol))
-    ∙ ap (λ (b : Bool). trade_on (row_if b (get_or t.rows (o.symbol % 256) no_quote)) o) (sym e)
-    ∙ sym h
+no_booked = record { id = 0; order = record { kind = MarketSell; symbol = 0; shares = nan; price = None } }
 
 -- ---- each order stays or trades
 
 one-by : (o : Option Trade) (b : Booked) (x : List Booked) (y : List Trade) (n : ℕ) → length x + length y ≡ n →
     length (cond (given o true (λ v. false)) (b ∷ x) x) + length (holds o ++ y) ≡ suc n
-one-by none b x y n e = omega arith
-one-by (some v) b x y n e = omega arith
+one-by None b x y n e = omega arith
+one-by (Some v) b x y n e = omega arith
 
 module _ (rows : ℕ → Option Quote) where
   pub all-executed : (l : List Booked) → length (keep (stays rows) l) + length (trades_of rows l) ≡ length l
@@ -80,13 +67,13 @@ module _ (rows : ℕ → Option Quote) (resting : ℕ) (book stay : List Booked)
       gather-more (λ (b : Booked). holds (trade_at rows b.order)) book i no_booked (omega (arith, v.long, v.small))
       ∙ ap (λ (x : Option Trade). trades_of rows (take i book) ++ holds x) e
 
-  pub trades-one : (x : Trade) (stay' : List Booked) (trades' : List Trade) (kept' count' : ℕ) → trade_at rows here.order ≡ some x →
+  pub trades-one : (x : Trade) (stay' : List Booked) (trades' : List Trade) (kept' count' : ℕ) → trade_at rows here.order ≡ Some x →
       stay' ≡ stay → trades' ≡ set trades count x → kept' ≡ kept → count' ≡ count + 1 → Inv rows resting book stay' trades' kept' count' (i + 1)
   trades-one x stay' trades' kept' count' e es et ek ec =
       let done = trades_of rows (take i book) in
       let low : length done < length no_trades = omega (arith, v.counted, v.few, v.room, v.small) in
       let same = sym (keep-less (stays rows) book i no_booked (omega (arith, v.long, v.small)) (ap (λ (o : Option Trade). given o true (λ y. false)) e)) in
-      let more = sym (one_more (some x) e) in
+      let more = sym (one_more (Some x) e) in
       record {
         within = omega arith;
         small = v.small;
@@ -99,13 +86,13 @@ module _ (rows : ℕ → Option Quote) (resting : ℕ) (book stay : List Booked)
         counted = ec ∙ ap (λ (m : ℕ). m + 1) v.counted ∙ sym (length-append done (x ∷ [])) ∙ ap length more;
       }
 
-  pub keeps-one : (stay' : List Booked) (trades' : List Trade) (kept' count' : ℕ) → trade_at rows here.order ≡ none →
+  pub keeps-one : (stay' : List Booked) (trades' : List Trade) (kept' count' : ℕ) → trade_at rows here.order ≡ None →
       stay' ≡ set stay kept here → trades' ≡ trades → kept' ≡ kept + 1 → count' ≡ count → Inv rows resting book stay' trades' kept' count' (i + 1)
   keeps-one stay' trades' kept' count' e es et ek ec =
       let k = keep (stays rows) (take i book) in
       let low : length k < length book = omega (arith, v.stayed, v.few, v.long, v.small) in
       let more = sym (keep-more (stays rows) book i no_booked (omega (arith, v.long, v.small)) (ap (λ (o : Option Trade). given o true (λ y. false)) e)) in
-      let same = sym (one_more none e ∙ append-nil (trades_of rows (take i book))) in
+      let same = sym (one_more None e ∙ append-nil (trades_of rows (take i book))) in
       record {
         within = omega arith;
         small = v.small;

@@ -1,8 +1,9 @@
 -- A tick for a lent log and a table read off lent rows is the one that specs/Lent.antt states, and its rows fit the log. Assumes nothing.
 use Rattle.std.proofs.Common.{◌≡◌, ℕ, zero, suc, ◌+◌, ◌≤◌, Bool, true, false, not, ◌||◌, eqb, List, [], ◌∷◌, length, sym, refl, ap, ◌∙◌, subst, arith}
 use mathlib.Core.Path.{fun_ext}
-use lib.Seq.{paste, paste-zero}
-use Rattle.lists.proofs.Over.{paste-over}
+use lib.ListN.{take}
+use Rattle.lists.specs.Lists.{stored}
+use Rattle.lists.proofs.Over.{take-over}
 use Rattle.market.specs.Faults.{◌draws◌, drawn, unless_drawn}
 use Rattle.market.specs.Quotes.{table_tests, table_of, row_at, row_for}
 use Rattle.market.specs.declared.quote.Quote.{Quote}
@@ -21,7 +22,7 @@ pub record TickFor (e : UistV1) (rows : List Quote) (log : List Trade) (x : Tick
   pub answer : answer_of x ≡ lent_tick e rows log
   pub few : x.count ≤ 1024
   pub fits : x.first + x.count ≤ length log
-  pub log_is : paste log x.first x.trades x.count ≡ lent_log e rows log
+  pub log_is : stored log x.first (take x.count x.trades) ≡ lent_log e rows log
 
 module _ (e : UistV1) (rows : List Quote) (log : List Trade) where
   refused-for : (n : ℕ) → drawn (lent_tests e rows log) ≡ suc n → TickFor e rows log (refused_with e (suc n))
@@ -31,7 +32,7 @@ module _ (e : UistV1) (rows : List Quote) (log : List Trade) where
         answer = rw d;
         few = omega arith;
         fits = omega arith;
-        log_is = sym (paste-zero log 0 no_trades) ∙ rw d;
+        log_is = rw d;
       }
 
   done-for : drawn (lent_tests e rows log) ≡ 0 → length log ≡ e.counts.room → broken_of e.counts ≡ false → TickFor e rows log (tick_done e (row_for rows))
@@ -44,7 +45,7 @@ module _ (e : UistV1) (rows : List Quote) (log : List Trade) where
         answer = rw d;
         few = omega (arith, s.together);
         fits = omega (arith, s.logs, s.bounded);
-        log_is = paste-over log e.counts.logged (trades_of (row_for rows) (resting_of e)) no_trades _ refl ∙ rw d;
+        log_is = rw (take-over (trades_of (row_for rows) (resting_of e)) no_trades _ refl, d);
       }
 
   by_rows : length log ≡ e.counts.room → broken_of e.counts ≡ false → drawn (lent_tests e rows log) ≡ drawn (table_tests 0 rows) → (n : ℕ) → drawn (table_tests 0 rows) ≡ n →

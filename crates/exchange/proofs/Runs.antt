@@ -1,7 +1,7 @@
 -- The theorem over lists of an exchange's calls: the program's definitions meet the ledger's, call by call, and the ledger has the claim.
 -- Assumes nothing.
 use Rattle.std.proofs.Common.{◌≡◌, ℕ, zero, suc, ◌+◌, ◌^◌, ◌<◌, true, false, not, ◌||◌, eqb, List, [], ◌∷◌, ◌++◌, length, take, sym, refl, ap, ◌∙◌, subst, ap₂, arith, eq-eqb}
-use mathlib.Core.Option.{none, some}
+use Rattle.std.specs.declared.option.Option.TheVariants.{None, Some}
 use lib.ListN.{length-replicate}
 use borrow.Author.Tests.{eqb-false}
 use Rattle.lists.specs.Lists.{over, stored}
@@ -184,8 +184,8 @@ kept-unless zero b d new k = k
 kept-unless (suc n) b d new k = kept b
 
 tick-shape : (b : Orders) (rows : List Quote) (n : ℕ) → drawn (table_tests 0 rows) ≡ n → Shape exchange_calls b (tick rows) [] (unless_drawn n (Ledger.tick rows b) b)
-tick-shape b rows zero e = acting exchange_calls b _ (tick rows) [] rows (λ n. refl) (ap (λ n. unless_drawn n (some rows) none) e) (kept (Ledger.tick rows b))
-tick-shape b rows (suc n) e = quiet exchange_calls b _ (tick rows) [] (λ n. refl) (ap (λ n. unless_drawn n (some rows) none) e) (kept b)
+tick-shape b rows zero e = acting exchange_calls b _ (tick rows) [] rows (λ n. refl) (ap (λ n. unless_drawn n (Some rows) None) e) (kept (Ledger.tick rows b))
+tick-shape b rows (suc n) e = quiet exchange_calls b _ (tick rows) [] (λ n. refl) (ap (λ n. unless_drawn n (Some rows) None) e) (kept b)
 
 step-shape : (room : ℕ) (b : Orders) (c : Call) → Shape exchange_calls b c (takes_in room b c) (ledger_step room b c)
 step-shape room b (insert o) =
@@ -194,7 +194,7 @@ step-shape room b (insert o) =
 step-shape room b (delete n) = erasing exchange_calls b _ (delete n) [] n (λ k. refl) refl (kept (erase n b))
 step-shape room b (tick rows) = tick-shape b rows (drawn (table_tests 0 rows)) refl
 
-apart : (n : ℕ) (c : Call) → deletes n c ≡ true → tradable c ≡ none
+apart : (n : ℕ) (c : Call) → deletes n c ≡ true → tradable c ≡ None
 apart n (insert o) e = refl
 apart n (delete m) e = refl
 apart n (tick rows) e = absurd (let z : ◌≡◌ {A = ℕ} 0 1 = cc in omega arith)

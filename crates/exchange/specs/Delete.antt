@@ -1,6 +1,5 @@
 -- Deletion: document 01, section 3. Definitions only.
 use Rattle.std.specs.Prelude.{ℕ, ◌+◌, ◌-◌, Bool, take, ◌==◌}
-use Rattle.std.proofs.Math.Option.{Option, none, some}
 use Rattle.lists.specs.Lists.{over, without, first_from, given}
 use Rattle.market.specs.Faults.{unless_drawn}
 use Rattle.exchange.specs.State.{broken_fault, resting_of}
@@ -8,16 +7,9 @@ use Rattle.exchange.specs.declared.state.Booked.{Booked}
 use Rattle.exchange.specs.declared.state.Counts.{Counts}
 use Rattle.exchange.specs.declared.state.UistV1.{UistV1}
 use Rattle.exchange.specs.declared.delete.Deleted.{Deleted}
-use Rattle.exchange.specs.declared.delete.Place.{Place}
-use Rattle.exchange.specs.declared.delete.Place.TheVariants.{At, Nowhere}
 
 abbrev pub has_number : ℕ → Booked → Bool
 has_number n b = b.id == n
-
--- what a `Place` says
-abbrev pub place_in : Place → Option ℕ
-place_in (At i) = some i
-place_in Nowhere = none
 
 -- the counts with one resting order less
 abbrev pub rests_one_less : Counts → Counts

@@ -1,6 +1,6 @@
 -- Lists of an exchange's calls: the program's own definitions beside the plain ledger's orders, fed the same calls. Definitions only.
 use Rattle.std.specs.Prelude.{◌≡◌, ℕ, suc, Bool, false, List, [], ◌∷◌, ◌++◌, length, take, ◌==◌}
-use Rattle.std.proofs.Math.Option.{Option, none, some}
+use Rattle.std.specs.Prelude.{Option, None, Some}
 use Rattle.lists.specs.Lists.{over}
 use Rattle.market.specs.Faults.{Test, drawn, unless_drawn}
 use Rattle.market.specs.Orders.{order_tests}
@@ -93,9 +93,9 @@ ledger_answers room b (c ∷ cs) = ledger_answer room b c ∷ ledger_answers roo
 
 -- a tick is unrefused by its rows alone
 abbrev pub tradable : Call → Option (List Quote)
-tradable (insert o) = none
-tradable (delete n) = none
-tradable (tick rows) = unless_drawn (drawn (table_tests 0 rows)) (some rows) none
+tradable (insert o) = None
+tradable (delete n) = None
+tradable (tick rows) = unless_drawn (drawn (table_tests 0 rows)) (Some rows) None
 
 abbrev pub deletes : ℕ → Call → Bool
 deletes n (insert o) = false

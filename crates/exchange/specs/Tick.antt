@@ -1,6 +1,6 @@
 -- A tick: document 01, section 3. Definitions only.
-use Rattle.std.specs.Prelude.{ℕ, ◌+◌, ◌-◌, ◌%◌, ◌^◌, Bool, true, false, cond, List, [], ◌∷◌, ◌++◌, map, length, take, drop, replicate, nat_lt}
-use Rattle.std.proofs.Math.Option.{Option}
+use Rattle.std.specs.Prelude.{ℕ, ◌+◌, ◌-◌, ◌%◌, ◌^◌, Bool, true, false, List, [], ◌∷◌, ◌++◌, map, length, take, drop, replicate}
+use Rattle.std.specs.Prelude.{Option}
 use Rattle.lists.specs.Lists.{over, keep, gather, given, holds}
 use Rattle.market.specs.Faults.{unless_drawn, first_drawn}
 use Rattle.market.specs.Quotes.{row_at}
@@ -53,6 +53,10 @@ execute_of book resting t =
 abbrev pub orders_in : List Booked → ℕ → ℕ → List Order
 orders_in book from until = map (λ b. b.order) (take (until - from) (drop from book))
 
+-- the orders of one side among these
+abbrev pub side_of : Bool → List Booked → List Order
+side_of sells l = of_side sells (map (λ b. b.order) l)
+
 -- the counter's next number: one more, modulo 2 ^ 64, which the length of no log reaches
 abbrev pub next : ℕ → ℕ
 next n = (n + 1) % 2 ^ 64
@@ -77,10 +81,6 @@ book_side_of b l =
 
 unfoldable pub book_waiting_of : List Booked → ℕ → ℕ → Booking → Booking
 book_waiting_of old from waits b = book_side_of b (sells_first (orders_in old from (from + waits)))
-
--- where the waiting order stands that a turn looks at: a first time for the sells, a second for the buys
-abbrev pub waiting_place : ℕ → ℕ → ℕ → ℕ
-waiting_place from waits turn = cond (nat_lt turn waits) (from + turn) (from + (turn - waits))
 
 -- ---- the tick
 

@@ -24,16 +24,14 @@ pub struct Joining {
 
 impl Counts {
     // 10 and 11, or 0. No sum here can wrap.
+    #[tactic(auto, unfolding(market::specs::Faults::drawn))]
     pub fn room_fault(self) -> u32
         ensures { result ≡ drawn (room_of self) }
     {
         if self.taken == self.room {
             return 10;
         }
-        if self.resting > Counts::WIDTH {
-            return 0;
-        }
-        if self.waits == Counts::WIDTH - self.resting {
+        if self.resting <= Counts::WIDTH && self.waits == Counts::WIDTH - self.resting {
             11
         } else {
             0
@@ -51,31 +49,30 @@ impl Counts {
     fn has_room(self) -> bool
         ensures { result ≡ has_room self }
     {
-        if self.resting >= Counts::WIDTH {
-            return false;
-        }
-        if self.waits >= Counts::WIDTH - self.resting {
-            return false;
-        }
-        self.taken < self.room
+        self.resting < Counts::WIDTH
+            && self.waits < Counts::WIDTH - self.resting
+            && self.taken < self.room
     }
 
     // One order more waits; where there is no room, nothing moves.
+    #[tactic(auto, unfolding(crate::specs::Insert::join_of))]
     pub fn join(self) -> Joining
         ensures { result ≡ join_of self }
     {
-        if self.has_room() {
-            let mut counts = self;
-            counts.waits = self.waits + 1;
-            counts.taken = self.taken + 1;
+        if !self.has_room() {
             return Joining {
-                counts: counts,
-                at: self.resting + self.waits,
+                counts: self,
+                at: 0,
             };
         }
+        let counts = Counts {
+            waits: self.waits + 1,
+            taken: self.taken + 1,
+            ..self
+        };
         Joining {
-            counts: self,
-            at: 0,
+            counts,
+            at: self.resting + self.waits,
         }
     }
 }
@@ -84,19 +81,13 @@ impl UistV1 {
     pub fn insert_order(self, order: Order) -> Inserted
         ensures { result ≡ insert_of self order }
     {
-        let c = self.counts;
-        let fault = c.insert_fault(order);
-        let mut s = self;
+        let fault = self.counts.insert_fault(order);
+        let mut exchange = self;
         if fault == 0 {
-            let join = c.join();
-            let at = join.at;
-            let counts = join.counts;
-            s.book[at] = Booked::waiting(order);
-            s.counts = counts;
+            let join = self.counts.join();
+            exchange.book[join.at] = Booked::waiting(order);
+            exchange.counts = join.counts;
         }
-        Inserted {
-            exchange: s,
-            fault: fault,
-        }
+        Inserted { exchange, fault }
     }
 }

@@ -13,20 +13,12 @@ pub struct TradeCount {
 
 impl UistV1 {
     // How many trades are in the log.
+    #[tactic(auto, unfolding(crate::specs::State::trade_count_of))]
     pub fn executed_trade_count(self) -> TradeCount
         ensures { result ≡ trade_count_of self }
     {
-        let counts = self.counts;
-        let fault = counts.fault();
-        if fault != 0 {
-            return TradeCount {
-                count: 0,
-                fault: fault,
-            };
-        }
-        TradeCount {
-            count: counts.logged,
-            fault: 0,
-        }
+        let fault = self.counts.fault();
+        let count = if fault == 0 { self.counts.logged } else { 0 };
+        TradeCount { count, fault }
     }
 }

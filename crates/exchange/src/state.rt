@@ -23,7 +23,8 @@ pub struct Counts {
     pub room: u64,
 }
 
-// The book has the resting orders first, in book order, then the waiting ones in order of taking.
+// The book has the resting orders first, in book order, then the waiting ones in order of taking. It
+// is fixed memory, and the counts say how much of it is used.
 #[derive(Clone, Copy)]
 pub struct UistV1 {
     pub book: [Booked; 1024],
@@ -35,10 +36,7 @@ impl Booked {
     pub fn numbered(id: u64, order: Order) -> Booked
         ensures { result ≡ booked_as id order }
     {
-        Booked {
-            id: id,
-            order: order,
-        }
+        Booked { id, order }
     }
 
     // An order that waits.
@@ -51,22 +49,21 @@ impl Booked {
 
 impl UistV1 {
     // A fresh exchange for a log of `room` rows.
+    #[tactic(auto, unfolding(crate::specs::State::fresh))]
     pub fn new(room: u64) -> UistV1
         ensures { result ≡ fresh room }
     {
-        let o = Order::blank();
-        let b = Booked::waiting(o);
-        let c = Counts {
-            resting: 0,
-            waits: 0,
-            ids: 0,
-            taken: 0,
-            logged: 0,
-            room: room,
-        };
+        let blank = Booked::waiting(Order::blank());
         UistV1 {
-            book: [b; 1024],
-            counts: c,
+            book: [blank; 1024],
+            counts: Counts {
+                resting: 0,
+                waits: 0,
+                ids: 0,
+                taken: 0,
+                logged: 0,
+                room,
+            },
         }
     }
 }
@@ -79,25 +76,16 @@ impl Counts {
     pub fn broken(self) -> bool
         ensures { result ≡ broken_of self }
     {
-        if self.resting > Counts::WIDTH {
-            return true;
-        }
-        if self.waits > Counts::WIDTH - self.resting {
-            return true;
-        }
-        if self.taken > self.room {
-            return true;
-        }
-        if self.ids > self.taken {
-            return true;
-        }
-        if self.logged > self.taken {
-            return true;
-        }
-        (self.resting + self.waits) as u64 > self.taken - self.logged
+        self.resting > Counts::WIDTH
+            || self.waits > Counts::WIDTH - self.resting
+            || self.taken > self.room
+            || self.ids > self.taken
+            || self.logged > self.taken
+            || (self.resting + self.waits) as u64 > self.taken - self.logged
     }
 
     // 16, or 0.
+    #[tactic(auto, unfolding(market::specs::Faults::drawn))]
     pub fn fault(self) -> u32
         ensures { result ≡ broken_fault self }
     {
@@ -112,12 +100,14 @@ impl Counts {
     }
 
     // 16 also for a log of another length than at the start, or 0.
+    #[tactic(auto, unfolding(market::specs::Faults::drawn))]
     pub fn fault_for(self, log_length: usize) -> u32
         ensures { result ≡ log_fault self log_length }
     {
-        if self.log_differs(log_length) {
-            return 16;
+        if self.log_differs(log_length) || self.broken() {
+            16
+        } else {
+            0
         }
-        self.fault()
     }
 }

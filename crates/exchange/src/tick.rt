@@ -1,15 +1,15 @@
 // A tick: the resting orders that meet their rule trade, then the waiting ones are booked.
-ghost use Rattle.std.specs.Prelude.{◌≡◌, ◌+◌, ◌<◌, ◌≤◌};
+ghost use Rattle.std.specs.Prelude.{◌≡◌, ◌+◌, ◌≤◌, length};
 ghost use Rattle.market.specs.Faults.{unless_drawn};
-ghost use Rattle.exchange.specs.Tick.{no_trades, execute_of, waiting_place, book_waiting_of, counts_after, refused_with, tick_of, tick_for_of, answer_of};
+ghost use Rattle.exchange.specs.Tick.{no_trades, execute_of, side_of, book_side_of, book_waiting_of, counts_after, refused_with, tick_of, tick_for_of, answer_of};
 
 use crate::state::{Booked, Counts, UistV1};
 use market::table::{ReadTable, Table};
-use market::trade::{Fill, Trade};
-use market::{fault, table, trade};
+use market::trade::Trade;
+use market::{fault, trade};
 
 // The new state, the trades in the first `count` places of `trades`, the log's row where the first
-// of them goes, and the number drawn, or 0.
+// of them goes, and the number drawn, or 0. The trades stand in fixed memory, with their count.
 #[derive(Clone, Copy)]
 pub struct Ticked {
     pub exchange: UistV1,
@@ -28,7 +28,7 @@ pub struct TickAnswer {
     pub fault: u32,
 }
 
-// The resting orders that stay, and the trades of the others.
+// The resting orders that stay, and the trades of the others, each in fixed memory with a count.
 #[derive(Clone, Copy)]
 struct Executed {
     book: [Booked; 1024],
@@ -45,6 +45,7 @@ struct Booking {
     ids: u64,
 }
 
+#[tactic(auto, unfolding(crate::specs::Tick::no_trades))]
 fn no_trades() -> [Trade; 1024]
     ensures { result ≡ no_trades }
 {
@@ -53,102 +54,80 @@ fn no_trades() -> [Trade; 1024]
 }
 
 // Trades the resting orders that meet their rule, in book order. What stays moves up in its own
-// array, never past the order that a turn reads, so that the book is copied once.
-fn execute_orders(book: [Booked; 1024], resting: usize, quotes: Table) -> Executed
+// array, never past the order that a turn reads, so that the book is copied once: hence the places.
+fn execute_orders(book: &[Booked; 1024], resting: usize, quotes: &Table) -> Executed
     requires { resting ≤ 1024 }
-    ensures { result ≡ execute_of book resting quotes }
+    ensures { result ≡ execute_of book.now resting quotes.now }
 {
-    let mut stay = book;
+    let mut stay = *book;
     let mut trades = no_trades();
     let mut kept: usize = 0;
     let mut count: usize = 0;
-    let mut i: usize = 0;
-    while i < resting {
+    for i in 0..resting {
         let b = stay[i];
-        let o = b.order;
-        let symbol = o.symbol;
-        let at = (symbol % 256) as usize;
-        let q = quotes.rows[at];
-        let present = quotes.present[at];
-        let fill = trade::execute(o, table::has_row(symbol, present), q);
-        match fill {
-            Fill::Traded(t) => {
+        match trade::execute(b.order, quotes.row(b.order.symbol)) {
+            Some(t) => {
                 trades[count] = t;
-                count = count + 1;
+                count += 1;
             }
-            Fill::Rests => {
+            None => {
                 stay[kept] = b;
-                kept = kept + 1;
+                kept += 1;
             }
         }
-        i = i + 1;
     }
     Executed {
         book: stay,
-        kept: kept,
-        trades: trades,
-        count: count,
+        kept,
+        trades,
+        count,
     }
 }
 
-// The place of the waiting order that a turn looks at: each is looked at twice.
-fn waiting_place(from: usize, waits: usize, turn: usize) -> usize
-    requires { (from + waits ≤ 1024) × (turn < waits + waits) }
-    ensures { result ≡ waiting_place from waits turn }
-{
-    if turn < waits {
-        from + turn
-    } else {
-        from + (turn - waits)
-    }
-}
-
-// Books the waiting orders behind those of `b`, sells first, then buys, each in order of taking: the
-// first `waits` turns book the sells, the others the buys.
-fn book_waiting(old: [Booked; 1024], from: usize, waits: usize, b: Booking) -> Booking
-    requires { (from + waits ≤ 1024) × (b.at ≤ from) }
-    ensures { result ≡ book_waiting_of old from waits b }
-{
-    let mut book = b.book;
-    let mut at = b.at;
-    let mut ids = b.ids;
-    let turns = waits + waits;
-    let mut i: usize = 0;
-    while i < turns {
-        let place = waiting_place(from, waits, i);
-        let w = old[place];
-        let o = w.order;
-        let sells = i < waits;
-        if o.is_sell() == sells {
-            book[at] = Booked::numbered(ids, o);
-            at = at + 1;
-            ids = std::num::wrapping_add_u64(ids, 1);
+impl Booking {
+    // Books the waiting orders of one side behind those that are booked, in order of taking.
+    fn book_side(&mut self, waiting: &[Booked], sells: bool)
+        requires { self.old.at + length (side_of sells waiting.now) ≤ 1024 }
+        ensures { self.new ≡ book_side_of self.old (side_of sells waiting.now) }
+    {
+        for w in waiting {
+            if w.order.is_sell() == sells {
+                self.book[self.at] = Booked::numbered(self.ids, w.order);
+                self.at += 1;
+                self.ids = self.ids.wrapping_add(1);
+            }
         }
-        i = i + 1;
     }
-    Booking {
-        book: book,
-        at: at,
-        ids: ids,
+
+    // Books the waiting orders, which stand in `old` from a place on, behind those that are booked:
+    // sells first, then buys.
+    fn book_waiting(&mut self, old: &[Booked; 1024], from: usize, waits: usize)
+        requires { (from + waits ≤ 1024) × (self.old.at ≤ from) }
+        ensures { self.new ≡ book_waiting_of old.now from waits self.old }
+    {
+        let waiting = &old[from..from + waits];
+        self.book_side(waiting, true);
+        self.book_side(waiting, false);
     }
 }
 
-// The counts after a tick that booked `resting` orders up to the number `ids` and traded `count`;
-// as they were where a number is drawn.
-fn counts_after(fault: u32, c: Counts, resting: usize, ids: u64, count: usize) -> Counts
-    requires { fault ≡ 0 → c.logged + count ≤ c.taken }
-    ensures { result ≡ unless_drawn fault (counts_after c resting ids count) c }
-{
-    if fault != 0 {
-        return c;
-    }
-    Counts {
-        resting: resting,
-        waits: 0,
-        ids: ids,
-        taken: c.taken,
-        logged: c.logged + count as u64,
-        room: c.room,
+impl Counts {
+    // The counts after a tick that booked `resting` orders up to the number `ids` and traded `count`;
+    // as they were where a number is drawn.
+    fn after(self, fault: u32, resting: usize, ids: u64, count: usize) -> Counts
+        requires { fault ≡ 0 → self.logged + count ≤ self.taken }
+        ensures { result ≡ unless_drawn fault (counts_after self resting ids count) self }
+    {
+        if fault != 0 {
+            return self;
+        }
+        Counts {
+            resting,
+            waits: 0,
+            ids,
+            logged: self.logged + count as u64,
+            ..self
+        }
     }
 }
 
@@ -156,13 +135,12 @@ fn counts_after(fault: u32, c: Counts, resting: usize, ids: u64, count: usize) -
 fn refused(e: UistV1, fault: u32) -> Ticked
     ensures { result ≡ refused_with e fault }
 {
-    let trades = no_trades();
     Ticked {
         exchange: e,
-        trades: trades,
+        trades: no_trades(),
         count: 0,
         first: 0,
-        fault: fault,
+        fault,
     }
 }
 
@@ -173,44 +151,41 @@ impl UistV1 {
         ensures { result ≡ tick_of self quotes.table }
     {
         let table = quotes.table();
-        let c = self.counts;
-        let fault = fault::first(c.fault(), table.fault);
-        let resting = fault::count_unless(fault, c.resting);
-        let waits = fault::count_unless(fault, c.waits);
-        let book = self.book;
-        let x = execute_orders(book, resting, table);
-        let stay = x.book;
-        let trades = x.trades;
-        let b = book_waiting(
+        let counts = self.counts;
+        let fault = fault::first(counts.fault(), table.fault);
+        let resting = fault::count_unless(fault, counts.resting);
+        let waits = fault::count_unless(fault, counts.waits);
+        let Executed {
             book,
-            resting,
-            waits,
-            Booking {
-                book: stay,
-                at: x.kept,
-                ids: c.ids,
-            },
-        );
-        let booked = b.book;
-        let counts = counts_after(fault, c, b.at, b.ids, x.count);
+            kept,
+            trades,
+            count,
+        } = execute_orders(&self.book, resting, &table);
+        let mut booking = Booking {
+            book,
+            at: kept,
+            ids: counts.ids,
+        };
+        booking.book_waiting(&self.book, resting, waits);
+        let Booking { book, at, ids } = booking;
         Ticked {
             exchange: UistV1 {
-                book: booked,
-                counts: counts,
+                book,
+                counts: counts.after(fault, at, ids, count),
             },
-            trades: trades,
-            count: x.count,
-            first: fault::count_unless(fault, c.logged as usize),
-            fault: fault,
+            trades,
+            count,
+            first: fault::count_unless(fault, counts.logged as usize),
+            fault,
         }
     }
 
     // A tick for a log of this length.
+    #[tactic(auto, unfolding(crate::specs::Tick::tick_for_of))]
     pub fn tick_for(self, quotes: ReadTable, log_length: usize) -> Ticked
         ensures { result ≡ tick_for_of self quotes.table log_length }
     {
-        let c = self.counts;
-        let fault = c.fault_for(log_length);
+        let fault = self.counts.fault_for(log_length);
         if fault != 0 {
             return refused(self, fault);
         }
@@ -222,9 +197,8 @@ impl Ticked {
     pub fn answer(self) -> TickAnswer
         ensures { result ≡ answer_of self }
     {
-        let e = self.exchange;
         TickAnswer {
-            exchange: e,
+            exchange: self.exchange,
             traded: self.count,
             fault: self.fault,
         }

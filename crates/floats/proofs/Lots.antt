@@ -2,7 +2,8 @@
 -- At lot 1 it is `floor_of` of every x. Assumes nothing.
 use Rattle.std.proofs.Common.{◌≡◌, ℕ, ◌+◌, ◌*◌, ◌/◌, ◌%◌, ◌^◌, ◌<◌, ◌≤◌, Bool, true, false, cond, not, T, eqb, leb, ◌↔◌, ℤ, sym, refl, ap, ◌∙◌, subst, le_trans, le_of_eq, lt_of_le_of_lt, add-zero, mul-le-mul_right, mul_assoc, add-mul, lt_of_mul-lt-mul_right, mul-pos, one-mul, div-add-mod', le-div_iff_mul-le, zero-mul, mul-one, mul_right_comm, div-mul-le_self, arith, eqb→eq, leb-false, leb-true}
 use native.Mathlib.Nat.{mul-mod_left}
-use mathlib.Core.Option.{none, some, some-injective, some-ne-none}
+use Rattle.std.specs.declared.option.Option.TheVariants.{None, Some}
+use Rattle.std.proofs.lemmas.Option.{same_Some, none-some}
 use borrow.Author.Tests.{not-true}
 use lib.Dec.{nleb→lt}
 use lib.Ieee.{Float, nan, inf, fin, binary64, up, down, round, le}
@@ -109,30 +110,30 @@ one-is-floor (inf s) = refl
 one-is-floor (fin false m e) = ap (λ (k : ℕ). round binary64 false k 1) (mul-one (m * up e / (down e * 1)) ∙ ap (λ (b : ℕ). m * up e / b) (mul-one (down e)))
 one-is-floor (fin true m e) = ap (λ (k : ℕ). round binary64 true k 1) (mul-one (over (m * up e) (down e * 1)) ∙ ap (λ (b : ℕ). over (m * up e) b) (mul-one (down e)))
 
-pub lot-one : (x : Float) → lot_shares 1 x ≡ some (floor_of x)
+pub lot-one : (x : Float) → lot_shares 1 x ≡ Some (floor_of x)
 lot-one x = sym (of_one 1 x (omega arith))
 
 -- below the bound there are shares, those of `lot_of`
-is-lot-of : (L : ℕ) (x : Float) → 0 < L → T (not (beyond x)) → lot_shares L x ≡ some (lot_of L x)
+is-lot-of : (L : ℕ) (x : Float) → 0 < L → T (not (beyond x)) → lot_shares L x ≡ Some (lot_of L x)
 is-lot-of L x P b = by (leb L 1) refl
   where
-    by : (t : Bool) → leb L 1 ≡ t → lot_shares L x ≡ some (lot_of L x)
+    by : (t : Bool) → leb L 1 ≡ t → lot_shares L x ≡ Some (lot_of L x)
     by true h =
         let small = leb-true L 1 h in
         let one : L ≡ 1 = omega arith in
-        subst (λ (l : ℕ). lot_shares l x ≡ some (lot_of l x)) (sym one) (lot-one x ∙ ap some (sym (one-is-floor x)))
+        subst (λ (l : ℕ). lot_shares l x ≡ Some (lot_of l x)) (sym one) (lot-one x ∙ ap Some (sym (one-is-floor x)))
     by false h = sym (of-lot L x (leb-false L 1 h) (not-true (beyond x) (is_true (not (beyond x)) b)))
 
 -- what is answered is exactly the greatest multiple
-pub lot-rounds : (L : ℕ) (x r : Float) → 0 < L → L < 2 ^ 32 → T (not (beyond x)) → lot_shares L x ≡ some r → LotDown L x r
-lot-rounds L x r P Q b h = subst (LotDown L x) (some-injective (lot_of L x) r (sym (is-lot-of L x P b) ∙ h)) (lot-nearest L x P Q b)
+pub lot-rounds : (L : ℕ) (x r : Float) → 0 < L → L < 2 ^ 32 → T (not (beyond x)) → lot_shares L x ≡ Some r → LotDown L x r
+lot-rounds L x r P Q b h = subst (LotDown L x) (same_Some (lot_of L x) r (sym (is-lot-of L x P b) ∙ h)) (lot-nearest L x P Q b)
 
 -- nothing is answered exactly where the lot is above 1 and x is beyond
-pub lot-refuses : (L : ℕ) (x : Float) → (lot_shares L x ≡ none) ↔ ((1 < L) × T (beyond x))
+pub lot-refuses : (L : ℕ) (x : Float) → (lot_shares L x ≡ None) ↔ ((1 < L) × T (beyond x))
 unfolding lot_shares
 lot-refuses L x = (by (leb L 1) (beyond x) refl refl, λ h. sym (of_none L x h.0 (is_true (beyond x) h.1)))
   where
-    by : (s t : Bool) → leb L 1 ≡ s → beyond x ≡ t → cond s (some (floor_of x)) (cond t none (some (lot_of L x))) ≡ none → (1 < L) × T (beyond x)
-    by true t p q h = absurd (some-ne-none (floor_of x) h)
+    by : (s t : Bool) → leb L 1 ≡ s → beyond x ≡ t → cond s (Some (floor_of x)) (cond t None (Some (lot_of L x))) ≡ None → (1 < L) × T (beyond x)
+    by true t p q h = absurd (none-some (floor_of x) (sym h))
     by false true p q h = (leb-false L 1 p, yes q)
-    by false false p q h = absurd (some-ne-none (lot_of L x) h)
+    by false false p q h = absurd (none-some (lot_of L x) (sym h))

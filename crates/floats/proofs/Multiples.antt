@@ -2,7 +2,7 @@
 -- both in one step, and which answer of `lot_shares` the tests of `floor_to_lot` select. Assumes nothing.
 use Rattle.std.proofs.Common.{◌≡◌, ℕ, ◌+◌, ◌-◌, ◌*◌, ◌/◌, ◌%◌, ◌^◌, ◌<◌, ◌≤◌, Bool, true, false, not, T, ℤ, pos, sym, refl, ap, ◌∙◌, subst, le_trans, le_of_eq, mul-le-mul_right, mul_assoc, mul_comm, add-mul, le_antisymm, mul-pos, one-mul, div-add-mod', zero-mul, arith, nltb→le, le-leb}
 use native.Mathlib.Nat.{zero-div, zero-mod, div-div-eq-div-mul}
-use mathlib.Core.Option.{none, some}
+use Rattle.std.specs.declared.option.Option.TheVariants.{None, Some}
 use borrow.Author.Tests.{lt-leb}
 use lib.Ieee.{Float, nan, inf, fin, binary64, up, down, round, neg, lt, of_int, to_unsigned, fits}
 use lib.Ieee.Fits.{down_pos}
@@ -104,7 +104,7 @@ zero-parts true m e a b = let h = nltb→le 0 (m * up e * 1 + 0 * 1 * down e) b 
 pub lot-zero : (L : ℕ) (x : Float) → T (fits binary64 x) → T (not (lt nought x)) → T (not (lt x nought)) → x ≡ lot_of L x
 lot-zero L nan t a b = unfold lot_of in refl
 lot-zero L (inf s) t a b = unfold lot_of in refl
-lot-zero L (fin s m e) t a b = (neither (fin s m e) t a b).0 ∙ zero-floor s L m e (zero-parts s m e a b)
+lot-zero L (fin s m e) t a b = neither (fin s m e) t a b ∙ zero-floor s L m e (zero-parts s m e a b)
 
 -- ---- the tests of `floor_to_lot`
 pub within : (x : Float) → T (lt (neg bound) x) → T (lt x bound) → beyond x ≡ false
@@ -135,14 +135,14 @@ too-high (fin true m e) a = absurd (some_size (m * up e) (down e) (down_pos e) (
 
 -- ---- the three answers of `lot_shares`
 module _ (L : ℕ) (x : Float) where
-  pub of_one : L ≤ 1 → some (floor_of x) ≡ lot_shares L x
+  pub of_one : L ≤ 1 → Some (floor_of x) ≡ lot_shares L x
   unfolding lot_shares
   of_one h = rw (le-leb L 1 h)
 
-  pub of-lot : 1 < L → beyond x ≡ false → some (lot_of L x) ≡ lot_shares L x
+  pub of-lot : 1 < L → beyond x ≡ false → Some (lot_of L x) ≡ lot_shares L x
   unfolding lot_shares
   of-lot h b = rw (lt-leb L 1 h, b)
 
-  pub of_none : 1 < L → beyond x ≡ true → none ≡ lot_shares L x
+  pub of_none : 1 < L → beyond x ≡ true → None ≡ lot_shares L x
   unfolding lot_shares
   of_none h b = rw (lt-leb L 1 h, b)

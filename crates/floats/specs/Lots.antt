@@ -1,12 +1,10 @@
 -- Rounding down to a lot size (document 02, request 1): what `floor_to_lot` answers, and what that comes to. Definitions only.
 -- As in `Whole`, a finite value `fin s m e` is ±a / b, the whole numbers a = m * up e and b = down e with the sign s.
 use Rattle.std.specs.Prelude.{◌≡◌, ℕ, ◌*◌, ◌%◌, Bool, true, false, cond, ◌&&◌, T, ◌==◌, nat_le, Float}
-use Rattle.std.proofs.Math.Option.{Option, none, some}
+use Rattle.std.specs.Prelude.{Option, None, Some}
 use Rattle.std.specs.Float.{nan, inf, fin, binary64}
 use Rattle.std.specs.Float.Ieee.{up, down, round, le}
 use Rattle.floats.specs.Whole.{under, over, floor_of, sign}
-use Rattle.floats.specs.declared.lot.Multiple.{Multiple}
-use Rattle.floats.specs.declared.lot.Multiple.TheVariants.{Of, Beyond}
 
 -- a lot size is 1 to 1,000,000
 abbrev pub is_lot : ℕ → Bool
@@ -36,12 +34,7 @@ beyond (fin s m e) = nat_le (4503599627370496 * down e) (m * up e)
 -- the shares of a quotient. A lot of 1 rounds to whole numbers, whatever the quotient, and so does a lot of 0, which is no lot size;
 -- for a lot above 1 a quotient that is `beyond` has none, which is 18
 unfoldable pub lot_shares : ℕ → Float → Option Float
-lot_shares L x = cond (nat_le L 1) (some (floor_of x)) (cond (beyond x) none (some (lot_of L x)))
-
--- what a `Multiple` says
-abbrev pub multiple_in : Multiple → Option Float
-multiple_in (Of x) = some x
-multiple_in Beyond = none
+lot_shares L x = cond (nat_le L 1) (Some (floor_of x)) (cond (beyond x) None (Some (lot_of L x)))
 
 -- ---- the rule as a statement
 

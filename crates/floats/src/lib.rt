@@ -3,36 +3,13 @@
 // is a `u64`, and so is one more.
 #![tactic(auto)]
 
-ghost use Rattle.std.specs.Prelude.{◌≡◌, false, T, pos};
-ghost use Rattle.std.specs.Float.Ieee as Ieee;
-ghost use Rattle.std.specs.Float.{fin};
+ghost use Rattle.std.specs.Prelude.{◌≡◌};
 ghost use Rattle.std.specs.Float.Ieee.Scale as Scale;
 ghost use Rattle.floats.specs.Whole.{floor_of, ceil_of};
 
 pub mod lot;
 
-// The greatest whole number not above a, for 0 < a < 2^52.
-fn under(a: f64) -> f64
-    requires fact_1 { T (Ieee.lt (fin false 0 (pos 0)) a) }
-    requires fact_2 { T (Ieee.lt a (fin false 1 (pos 52))) }
-    ensures { result ≡ floor_of a }
-{
-    std::num::truncating_f64_to_u64(a) as f64
-}
-
-// The least whole number not below a, for 0 < a < 2^52.
-fn over(a: f64) -> f64
-    requires fact_1 { T (Ieee.lt (fin false 0 (pos 0)) a) }
-    requires fact_2 { T (Ieee.lt a (fin false 1 (pos 52))) }
-    ensures { result ≡ ceil_of a }
-{
-    let n: u64 = std::num::truncating_f64_to_u64(a);
-    let t: f64 = n as f64;
-    if t < a {
-        return (n + 1) as f64;
-    }
-    t
-}
+use crate::lot::{whole_over, whole_under};
 
 // The greatest whole number not above x.
 pub fn floor(x: f64) -> f64
@@ -40,13 +17,13 @@ pub fn floor(x: f64) -> f64
 {
     if x > 0.0 {
         if x < 4503599627370496.0 {
-            return under(x);
+            return whole_under(x) as f64;
         }
         return x;
     }
     if x < 0.0 {
         if x > -4503599627370496.0 {
-            return -over(-x);
+            return -(whole_over(-x) as f64);
         }
         return x;
     }
@@ -57,19 +34,7 @@ pub fn floor(x: f64) -> f64
 pub fn ceil(x: f64) -> f64
     ensures { result ≡ ceil_of x }
 {
-    if x > 0.0 {
-        if x < 4503599627370496.0 {
-            return over(x);
-        }
-        return x;
-    }
-    if x < 0.0 {
-        if x > -4503599627370496.0 {
-            return -under(-x);
-        }
-        return x;
-    }
-    x
+    -floor(-x)
 }
 
 // Whether x is neither an infinity nor a NaN. An infinity less itself is a NaN, which equals nothing.

@@ -2,7 +2,7 @@
 use Prim.Native.Nat.{ℕ, zero, suc, ◌<◌, ◌^◌}
 use native.Mathlib.Omega.{arith}
 use mathlib.Core.Bool.{Bool, true, false, not, cond, ◌||◌}
-use mathlib.Core.Path.{◌≡◌, refl, ◌∙◌, sym, ap, ap₂, subst}
+use mathlib.Core.Path.{◌≡◌, refl, ◌∙◌, sym, ap, ap₂}
 use mathlib.Core.List.{List, [], ◌∷◌, ◌++◌}
 use lib.Dec.{ltb}
 use lib.Ieee.{Float}
@@ -78,23 +78,19 @@ module _ (b : UistBroker) (L : Ledger) (m : Stands b L) (a : Float) where
   number_by : (success : Float → Answer) (fa fb : Bool) (rest : List Test) (done : CashMoved) → cash_answer done.event ≡ moved_as success (drawn rest) a →
       cash_answer (moving fa fb done).event ≡ moved_as success (drawn (moving_tests fa fb rest)) a
   unfolding drawn
-  number_by success true true rest done k = refl
-  number_by success true false rest done k = k
-  number_by success false fb rest done k = refl
+  number_by success fa fb rest done k = grind (arith, k)
 
   cash-moves : (success : Float → Answer) (rest : List Test) (done : CashMoved) (M : Ledger) → Stands done.broker (unless_drawn (drawn rest) M L) → cash_answer done.event ≡ moved_as success (drawn rest) a →
       Stands (cash_moved b a done).broker (unless_drawn (drawn (moving_tests (finite a) L.money.failed rest)) M L) × (cash_answer (cash_moved b a done).event ≡ moved_as success (drawn (moving_tests (finite a) L.money.failed rest)) a)
-  cash-moves success rest done M k n = (
-    subst (λ x. Stands x.broker (unless_drawn (drawn (moving_tests (finite a) L.money.failed rest)) M L)) (sym (moved-is done)) (moving-by (finite a) L.money.failed rest done M k),
-    ap (λ x. cash_answer x.event) (moved-is done) ∙ number_by success (finite a) L.money.failed rest done n,
-  )
+  cash-moves success rest done M k n =
+      rw (moved-is done) (moving-by (finite a) L.money.failed rest done M k, number_by success (finite a) L.money.failed rest done n)
 
   -- a deposit
   abbrev deposit_done : CashMoved
   deposit_done = answered (Cash.with_cash b (plus a (cash_of b))) (DepositSuccess a)
 
   deposit-stands : Stands deposit_done.broker (with_money L (with_cash L.money (plus a L.money.cash)))
-  deposit-stands = subst (λ x. Stands (Cash.with_cash b (plus a x)) (with_money L (with_cash L.money (plus a L.money.cash)))) (sym (cash-same b L m)) (cash-stands b L m (plus a L.money.cash))
+  deposit-stands = rw (cash-same b L m) (cash-stands b L m (plus a L.money.cash))
 
   pub deposits : Stands (deposit_of b a).broker (Ledger.step L (deposit a)) × (cash_answer (deposit_of b a).event ≡ Ledger.answer L (deposit a))
   unfolding deposit_of Ledger.step call_tests acting answer_as drawn
@@ -108,7 +104,7 @@ module _ (b : UistBroker) (L : Ledger) (m : Stands b L) (a : Float) where
   withdraw-by : (t : Bool) → Stands (withdraw_done t).broker (unless_drawn (drawn ((t draws 12) ∷ [])) (with_money L (with_cash L.money (minus L.money.cash a))) L) × (cash_answer (withdraw_done t).event ≡ moved_as withdrawn (drawn ((t draws 12) ∷ [])) a)
   unfolding drawn
   withdraw-by true = (m, refl)
-  withdraw-by false = (subst (λ x. Stands (Cash.with_cash b (minus x a)) (with_money L (with_cash L.money (minus L.money.cash a)))) (sym (cash-same b L m)) (cash-stands b L m (minus L.money.cash a)), refl)
+  withdraw-by false = (rw (cash-same b L m) (cash-stands b L m (minus L.money.cash a)), refl)
 
   pub withdraws : Stands (withdraw_of b a).broker (Ledger.step L (withdraw a)) × (cash_answer (withdraw_of b a).event ≡ Ledger.answer L (withdraw a))
   unfolding withdraw_of Ledger.step call_tests acting answer_as
@@ -116,7 +112,7 @@ module _ (b : UistBroker) (L : Ledger) (m : Stands b L) (a : Float) where
       let t = below L.money.cash a in
       let e : below (cash_of b) a ≡ t = ap (λ x. below x a) (cash-same b L m) in
       let w = withdraw-by t in
-      cash-moves withdrawn ((t draws 12) ∷ []) (withdraw_done (below (cash_of b) a)) (with_money L (with_cash L.money (minus L.money.cash a))) (subst (λ x. Stands (withdraw_done x).broker (unless_drawn (drawn ((t draws 12) ∷ [])) (with_money L (with_cash L.money (minus L.money.cash a))) L)) (sym e) w.0) (ap (λ x. cash_answer (withdraw_done x).event) e ∙ w.1)
+      cash-moves withdrawn ((t draws 12) ∷ []) (withdraw_done (below (cash_of b) a)) (with_money L (with_cash L.money (minus L.money.cash a))) (rw e w.0) (rw e w.1)
 
   -- a liquidation
   abbrev liquidate_done : Bool → Bool → CashMoved
@@ -172,10 +168,10 @@ module _ (l₀ : List Trade) (s : Held) (L : Ledger) (m : Meets l₀ s L) (h : l
   -- 16 is not drawn by a log that is the start's
   pub log-test : broken_for s.broker (length s.log) ≡ false
   log-test =
-      ap₂ (λ x y. not x || y) (eq-eqb (length s.log) s.broker.exchange.counts.room (log-length ∙ sym m.room-is ∙ sym m.stands.books.room-is)) (unbroken s.broker L m.stands)
+      ap₂ (λ x y. not x || y) (eq-eqb (length s.log) s.broker.exchange.counts.room (omega (arith, log-length, m.room-is, m.stands.books.room-is))) (unbroken s.broker L m.stands)
 
   below-room : L.room < 2 ^ 64
-  below-room = subst (λ n. n < 2 ^ 64) (sym m.room-is) h
+  below-room = omega (arith, m.room-is)
 
   -- the log after an unrefused check
   log-after : (t f : List Quote) → drawn (table_tests 0 t) ≡ 0 → drawn (table_tests 0 f) ≡ 0 → log_with s.broker t s.log ≡ over (L.orders.trades ++ fills_of t L.orders.booked) l₀

@@ -1,30 +1,31 @@
 -- Checks and updates keep the relation between a broker and a ledger. Assumes nothing.
-use Prim.Native.Nat.{ℕ, ◌<◌, ◌^◌}
+use Prim.Native.Nat.{◌<◌, ◌^◌}
 use native.Mathlib.Omega.{arith}
-use mathlib.Core.Bool.{Bool, true, false, cond, ◌||◌}
+use mathlib.Core.Bool.{Bool, true, false, cond, or-false, or-true}
 use mathlib.Core.Path.{◌≡◌, refl, ◌∙◌, sym, ap, subst, fun_ext}
 use mathlib.Core.List.{List, [], ◌∷◌, ◌++◌, foldl}
-use mathlib.Core.Option.{Option, none, some}
+use Rattle.std.specs.declared.option.Option.{Option}
+use Rattle.std.specs.declared.option.Option.TheVariants.{None, Some}
+use Rattle.std.proofs.lemmas.Option.{none-some}
 use Rattle.lists.specs.Lists.{holds, All}
 use Rattle.lists.proofs.Each.{length-each}
 use Rattle.market.specs.Faults.{drawn}
-use Rattle.market.specs.Orders.{zero64, is_sell}
+use Rattle.market.specs.Orders.{zero64}
 use Rattle.market.specs.Quotes.{table_tests, table_of, row_for, row_at}
-use Rattle.market.specs.Trades.{meets_rule, trade_of, trade_on}
+use Rattle.market.specs.Trades.{trade_on}
 use Rattle.market.specs.declared.order.Order.{Order}
 use Rattle.market.specs.declared.quote.Quote.{Quote}
 use Rattle.market.specs.declared.trade.Trade.{Trade}
 use Rattle.market.specs.declared.weight.Weight.{Weight}
 use Rattle.market.proofs.Tables.{table-row}
-use Rattle.orders.specs.Orders.{Entry, rests, trade_for, rows_of, fills_of, tick}
+use Rattle.orders.specs.Orders.{Entry, rests, trade_for, rows_of, fills_of}
 use Rattle.exchange.specs.State.{resting_of}
-use Rattle.exchange.specs.Tick.{trades_of, ticked}
-use Rattle.exchange.proofs.Books.{Books, books-trades, books-tick}
+use Rattle.exchange.specs.Tick.{trades_of}
+use Rattle.exchange.proofs.Books.{books-trades, books-tick}
 use Rattle.rules.specs.Amounts.{plus, negated, below}
 use Rattle.rules.specs.Money.{fetched, settled, failed_if}
 use Rattle.rules.specs.Weights.{plan_of}
 use Rattle.portfolio.specs.State.{money_of}
-use Rattle.broker.specs.Send.{sent_all}
 use Rattle.portfolio.specs.Liquidate as Sales
 use Rattle.broker.specs.Liquidate as Liquidate
 use Rattle.broker.specs.Check as Check
@@ -42,31 +43,20 @@ use Rattle.ledger.proofs.Standing.{Stands, cash-same, sends-stand, liquidate-sta
 
 -- ---- the symbols of trades
 
-traded-at : (o : Order) (r : Option Quote) (x : Trade) → trade_on r o ≡ some x → (x.symbol ≡ o.symbol) × ((q : Quote) × (r ≡ some q))
-unfolding trade_on
-traded-at o none x e = absurd (let z : ◌≡◌ {A = ℕ} 0 1 = cc in omega arith)
-traded-at o (some q) x e = by (meets_rule o q) e
-  where
-    symbol-by : (b : Bool) → is_sell o.kind ≡ b → (trade_of o q).symbol ≡ o.symbol
-    symbol-by true s = rw s
-    symbol-by false s = rw s
-
-    by : (b : Bool) → cond b (some (trade_of o q)) none ≡ some x → (x.symbol ≡ o.symbol) × ((p : Quote) × (some q ≡ some p))
-    by true f = let g : trade_of o q ≡ x = cc in (ap (λ t. t.symbol) (sym g) ∙ symbol-by (is_sell o.kind) refl, (q, refl))
-    by false f = absurd (let z : ◌≡◌ {A = ℕ} 0 1 = cc in omega arith)
-
 all_append : {A : Type 0} (P : A → Type 0) (l m : List A) → All P l → All P m → All P (l ++ m)
 all_append P [] m a b = b
 all_append P (x ∷ l) m a b = (a.0, all_append P l m a.1 b)
 
 module _ (t : List Quote) (d : drawn (table_tests 0 t) ≡ 0) where
+  traded-below : (o : Order) (r : Option Quote) (x : Trade) → row_for t o.symbol ≡ r → trade_on r o ≡ Some x → x.symbol < 256
+  unfolding trade_on
+  traded-below o None x f e = absurd (none-some x e)
+  traded-below o (Some q) x f e = grind (arith, row_below 0 t o.symbol q d f)
+
   row-trades : (o : Order) (x : Option Trade) → trade_for t o ≡ x → (b : Bool) → All (λ y. y.symbol < 256) (cond b (holds x) [])
-  row-trades o none e true = tt
-  row-trades o none e false = tt
-  row-trades o (some y) e true =
-      let r = traded-at o (row_for t o.symbol) y e in
-      (subst (λ n. n < 256) (sym r.0) (row_below 0 t o.symbol r.1.0 d r.1.1), tt)
-  row-trades o (some y) e false = tt
+  row-trades o None e true = tt
+  row-trades o (Some y) e true = (traded-below o (row_for t o.symbol) y refl e, tt)
+  row-trades o x e false = tt
 
   pub fills_below : (l : List Entry) → All (λ y. y.symbol < 256) (fills_of t l)
   fills_below [] = tt
@@ -89,7 +79,7 @@ module _ (b : UistBroker) (L : Ledger) (m : Stands b L) (t f : List Quote) (dt :
   unfolding fetched
   quoted-view =
       ap (λ r. record { costs = (money_of b.portfolio).costs; lot = (money_of b.portfolio).lot; latest = r; failed = (money_of b.portfolio).failed; cash = (money_of b.portfolio).cash; held = (money_of b.portfolio).held; pending = (money_of b.portfolio).pending })
-      (merge-fetched b.portfolio.latest f m.present m.rows df)
+      (merge-fetched b.portfolio.latest f m.rows df)
       ∙ ap (fetched f) m.money
 
   booked-view : money_of (booked_by b (table_of t) (table_of f)).portfolio ≡ (booking L t f).money
@@ -102,32 +92,22 @@ module _ (b : UistBroker) (L : Ledger) (m : Stands b L) (t f : List Quote) (dt :
   unfolding merge_of
   booking-stands h =
       record {
-        books = subst (λ r. Books (ticked b.exchange r) L.room (tick t L.orders)) (sym rows_same) (books-tick b.exchange L.room L.orders m.books t h);
+        books = rw rows_same (books-tick b.exchange L.room L.orders m.books t h);
         money = booked-view;
         wide = settles-wide b.portfolio.funds (trades_of (row_at (table_of t)) (resting_of b.exchange)) m.wide;
-        present = length-each _ 0 b.portfolio.latest.present ∙ m.present;
         rows = length-each _ 0 b.portfolio.latest.rows ∙ m.rows;
         lot = m.lot;
       }
 
 -- ---- a shortfall
 
-or-false : (b : Bool) → b || false ≡ b
-or-false true = refl
-or-false false = refl
-
-or-true : (b : Bool) → b || true ≡ true
-or-true true = refl
-or-true false = refl
-
 failed-by : (b : UistBroker) (L : Ledger) → Stands b L → (ok : Bool) → Stands (Check.failed_unless ok b) (Ledger.failed_unless ok L)
 unfolding failed_of failed_if
 failed-by b L m true =
     record {
       books = m.books;
-      money = m.money ∙ ap (λ x. record { costs = L.money.costs; lot = L.money.lot; latest = L.money.latest; failed = x; cash = L.money.cash; held = L.money.held; pending = L.money.pending }) (sym (or-false L.money.failed));
+      money = m.money ∙ rw (or-false L.money.failed);
       wide = m.wide;
-      present = m.present;
       rows = m.rows;
       lot = m.lot;
     }
@@ -136,9 +116,8 @@ failed-by b L m false =
       books = m.books;
       money =
           ap (λ n. record { costs = n.costs; lot = n.lot; latest = n.latest; failed = true; cash = n.cash; held = n.held; pending = n.pending }) m.money
-          ∙ ap (λ x. record { costs = L.money.costs; lot = L.money.lot; latest = L.money.latest; failed = x; cash = L.money.cash; held = L.money.held; pending = L.money.pending }) (sym (or-true L.money.failed));
-      wide = record { holding = m.wide.holding; pending = m.wide.pending; awaited = m.wide.awaited };
-      present = m.present;
+          ∙ rw (or-true L.money.failed);
+      wide = record { holding = m.wide.holding; pending = m.wide.pending };
       rows = m.rows;
       lot = m.lot;
     }
@@ -174,4 +153,4 @@ plan-same b L m w = ap (λ n. plan_of n w) m.money
 
 pub weigh-stands : (b : UistBroker) (L : Ledger) → Stands b L → (w : List Weight) → Stands (weighed_by b w) (after_weights L w)
 unfolding weighed_by
-weigh-stands b L m w = subst (λ p. Stands (sent_all b p.orders) (after_weights L w)) (sym (plan-same b L m w)) (sends-stand b L (plan_of L.money w).orders m)
+weigh-stands b L m w = rw (plan-same b L m w) (sends-stand b L (plan_of L.money w).orders m)

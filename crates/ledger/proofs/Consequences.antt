@@ -3,8 +3,10 @@ use Prim.Native.Nat.{ℕ, zero, suc, ◌+◌, ◌<◌, ◌^◌}
 use native.Mathlib.Omega.{arith}
 use mathlib.Core.Path.{◌≡◌, refl, ◌∙◌, sym, ap, subst}
 use mathlib.Core.List.{List, [], ◌∷◌, ◌++◌}
-use mathlib.Core.Option.{some}
-use lib.ListN.{length, get_elem?}
+use Rattle.std.specs.declared.option.Option.TheVariants.{Some}
+use lib.ListN.{length}
+use Rattle.std.specs.Prelude.{slice_get}
+use Rattle.std.proofs.lemmas.Option.{same_Some}
 use Rattle.market.specs.declared.quote.Quote.{Quote}
 use Rattle.market.specs.declared.trade.Trade.{Trade}
 use Rattle.costs.specs.declared.TradeCosts.{TradeCosts}
@@ -23,16 +25,16 @@ use Rattle.ledger.proofs.Demand.{demand-3}
 -- an order that rests stands among the resting ones, under its number
 rest-within : (f : Fate) (o : Booked) (l : List Booked) → f ≡ resting → Within o (rest_of f o.id o.order l)
 rest-within resting o l e = (0, refl)
-rest-within (ended x) o l e = absurd (let z : ◌≡◌ {A = ℕ} 0 1 = cc in omega arith)
+rest-within (ended x) o l e = grind arith
 
 rest-behind : (f : Fate) (n : ℕ) (e : Entry) (b : Booked) (l : List Booked) → Within b l → Within b (rest_of f n e.taken.order l)
 rest-behind resting n e b l h = (suc h.0, h.1)
 rest-behind (ended x) n e b l h = h
 
-resting-there : (i k n : ℕ) (l : List Entry) (e : Entry) → i + k ≡ n → get_elem? l k ≡ some e → e.fate ≡ resting → Within (booked_as n e.taken.order) (resting_from i l)
-resting-there i k n [] e s t f = absurd (let z : ◌≡◌ {A = ℕ} 0 1 = cc in omega arith)
+resting-there : (i k n : ℕ) (l : List Entry) (e : Entry) → i + k ≡ n → slice_get l k ≡ Some e → e.fate ≡ resting → Within (booked_as n e.taken.order) (resting_from i l)
+resting-there i k n [] e s t f = grind arith
 resting-there i zero n (d ∷ l) e s t f =
-    let a : d ≡ e = cc in
+    let a = same_Some d e t in
     let b : i ≡ n = omega arith in
     subst (λ x. Within (booked_as n e.taken.order) (rest_of x.fate i x.taken.order (resting_from (suc i) l))) (sym a)
     (subst (λ m. Within (booked_as n e.taken.order) (rest_of e.fate m e.taken.order (resting_from (suc i) l))) (sym b)

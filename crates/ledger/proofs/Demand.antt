@@ -1,15 +1,16 @@
 -- Demand 3, proved: the program meets the ledger over every list of calls, and the ledger has the claim. Assumes nothing.
 use Prim.Native.Nat.{ℕ, zero, suc, ◌<◌, ◌≤◌, ◌^◌}
 use native.Mathlib.Omega.{arith}
-use mathlib.Core.Bool.{Bool, true, false, not, cond, ◌&&◌}
-use mathlib.Core.Path.{◌≡◌, refl, ◌∙◌, sym, ap, ap₂, subst, fun_ext}
+use mathlib.Core.Bool.{true, false, ◌&&◌}
+use mathlib.Core.Path.{◌≡◌, refl, ◌∙◌, sym, ap, ap₂, fun_ext}
 use mathlib.Core.List.{List, [], ◌∷◌, ◌++◌}
-use mathlib.Core.Option.{none, some}
-use lib.Dec.{ltb}
+use Rattle.std.specs.declared.option.Option.{Option}
+use Rattle.std.specs.declared.option.Option.TheVariants.{None, Some}
+use Rattle.std.proofs.lemmas.Grind.{common_steps}
 use lib.Ieee as Ieee
-use lib.Ieee.{nan}
+use lib.Ieee.{Float, nan}
 use lib.ListN.{length, take, get_or, replicate, length-replicate, get_or-replicate}
-use borrow.Author.Tests.{ltb-true, le-ltb, le-leb}
+use borrow.Author.Tests.{le-leb}
 use Rattle.lists.specs.Lists.{All}
 use Rattle.lists.proofs.Over.{take-over}
 use Rattle.market.specs.Faults.{◌draws◌, drawn, unless_drawn}
@@ -18,7 +19,7 @@ use Rattle.market.specs.Quotes.{table_tests, table_of}
 use Rattle.market.specs.declared.quote.Quote.{Quote}
 use Rattle.market.specs.declared.trade.Trade.{Trade}
 use Rattle.market.specs.declared.weight.Weight.{Weight}
-use Rattle.market.proofs.Tables.{table-fault, table-present-length, table-rows-length}
+use Rattle.market.proofs.Tables.{table-fault, table-rows-length}
 use Rattle.costs.specs.declared.TradeCosts.{TradeCosts}
 use Rattle.costs.specs.declared.BrokerCost.{BrokerCost}
 use Rattle.costs.specs.Costs.{is_finite}
@@ -30,8 +31,8 @@ use Rattle.orders.proofs.Lives as Lives
 use Rattle.exchange.specs.State.{fresh, blank_row}
 use Rattle.rules.specs.Money.{unless_zero}
 use Rattle.rules.specs.Basis.{cost_basis}
-use Rattle.portfolio.specs.State.{no_funds, held_at, pending_if, pending_at}
-use Rattle.broker.specs.Build.{build_of, each_finite, builder_tests, fresh_broker, no_broker}
+use Rattle.portfolio.specs.State.{no_funds, held_at, pending_at}
+use Rattle.broker.specs.Build.{build_of, each_finite, builder_tests, fresh_broker}
 use Rattle.broker.specs.Lender.{log_test, broker_fault}
 use Rattle.broker.specs.Lent.{build_for}
 use Rattle.market.specs.declared.order.OrderEvent.{OrderEvent}
@@ -69,29 +70,22 @@ module _ (l₀ : List Trade) (h : length l₀ < 2 ^ 64) (s : Held) (L : Ledger) 
 
 -- ---- the builder's result
 
-zero-none : unless_zero zero64 ≡ none
+zero-none : unless_zero zero64 ≡ None
 unfolding Ieee.of_bits Ieee.eq
 zero-none = refl
 
-none-held : (n : ℕ) (b : Bool) → ltb n 256 ≡ b → cond b (unless_zero (get_or (replicate 256 zero64) n nan)) none ≡ none
-none-held n false e = refl
-none-held n true e = ap unless_zero (get_or-replicate 256 n zero64 nan (ltb-true n 256 e)) ∙ zero-none
+none-held : (n : ℕ) → held_at (replicate 256 zero64) n ≡ None
+none-held n = grind (arith, get_or-replicate 256 n zero64 nan, zero-none)
 
-none-pending : (n : ℕ) (b : Bool) → ltb n 256 ≡ b → cond b (pending_if (get_or (replicate 256 false) n false) (get_or (replicate 256 zero64) n nan)) none ≡ none
-none-pending n false e = refl
-none-pending n true e = ap (λ x. pending_if x (get_or (replicate 256 zero64) n nan)) (get_or-replicate 256 n false false (ltb-true n 256 e))
-
--- the first number drawn decides
-first-drawn : (n f : ℕ) → unless_drawn n f n ≡ 0 → (n ≡ 0) × (f ≡ 0)
-first-drawn zero f e = (refl, e)
-first-drawn (suc n) f e = absurd (omega (arith, e))
+none-pending : (k n : ℕ) → ◌≡◌ {A = Option Float} (get_or (replicate k None) n None) None
+none-pending k n = grind (arith, common_steps)
 
 module _ (costs : TradeCosts) (lot : ℕ) (first : List Quote) (l₀ : List Trade) where
   -- at most 16 costs, each finite
   finite-none : (l : List BrokerCost) → All (λ c. is_finite c ≡ true) l → drawn (each_finite l) ≡ 0
   unfolding drawn
   finite-none [] a = refl
-  finite-none (c ∷ l) a = ap (λ b. drawn ((not b draws 2) ∷ each_finite l)) a.0 ∙ finite-none l a.1
+  finite-none (c ∷ l) a = grind (arith, a.0, finite-none l a.1)
 
   -- a lot of 1 to 1,000,000
   lot-sound : (1 ≤ lot) × (lot ≤ 1000000) → is_lot lot ≡ true
@@ -100,20 +94,19 @@ module _ (costs : TradeCosts) (lot : ℕ) (first : List Quote) (l₀ : List Trad
   builder-none : Buildable costs lot first → drawn (builder_tests costs.count lot (costs_of costs)) ≡ 0
   unfolding drawn
   builder-none d =
-      ap₂ (λ x y. drawn ((x draws 14) ∷ (not y draws 17) ∷ each_finite (costs_of costs))) (le-ltb 16 costs.count d.few) (lot-sound d.lot-size)
-      ∙ finite-none (costs_of costs) d.each-finite
+      grind (arith, d.few, lot-sound d.lot-size, finite-none (costs_of costs) d.each-finite)
 
   draws-none : drawn (builder_tests costs.count lot (costs_of costs)) ≡ 0 → drawn (table_tests 0 first) ≡ 0 → (build_for costs lot first l₀).fault ≡ 0
   unfolding build_of
-  draws-none c t = ap (λ n. unless_drawn n (table_of first).fault n) c ∙ table-fault first ∙ t
+  draws-none c t = grind (arith, c, table-fault first, t)
 
   build-table : (build_for costs lot first l₀).fault ≡ 0 → drawn (table_tests 0 first) ≡ 0
   unfolding build_of
-  build-table e = sym (table-fault first) ∙ (first-drawn (drawn (builder_tests costs.count lot (costs_of costs))) (table_of first).fault e).1
+  build-table e = grind (arith, e, table-fault first)
 
   built-broker : (build_for costs lot first l₀).fault ≡ 0 → (build_for costs lot first l₀).broker ≡ fresh_broker costs lot (table_of first) (length l₀)
   unfolding build_of
-  built-broker e = ap (λ n. unless_drawn n (fresh_broker costs lot (table_of first) (length l₀)) no_broker) e
+  built-broker e = rw e refl
 
   pub fresh_meets : is_lot lot ≡ true → drawn (table_tests 0 first) ≡ 0 → Meets l₀ (record { broker = fresh_broker costs lot (table_of first) (length l₀); log = l₀ }) (start (costs_of costs) lot first (length l₀))
   unfolding fresh no_funds start
@@ -133,11 +126,10 @@ module _ (costs : TradeCosts) (lot : ℕ) (first : List Quote) (l₀ : List Trad
             fit = record { traded = omega arith; room-left = omega arith; places = omega arith };
           };
           money =
-              ap (λ r. record { costs = costs_of costs; lot = lot; latest = r; failed = false; cash = zero64; held = held_at (replicate 256 zero64); pending = pending_at (replicate 256 false) (replicate 256 zero64) }) (first_rows first d)
+              ap (λ r. record { costs = costs_of costs; lot = lot; latest = r; failed = false; cash = zero64; held = held_at (replicate 256 zero64); pending = pending_at (replicate 256 None) }) (first_rows first d)
               ∙ ap₂ (λ x y. record { costs = costs_of costs; lot = lot; latest = (Rattle.ledger.specs.Ledger.start (costs_of costs) lot first (length l₀)).money.latest; failed = false; cash = zero64; held = x; pending = y })
-              (fun_ext (λ n. none-held n (ltb n 256) refl)) (fun_ext (λ n. none-pending n (ltb n 256) refl));
-          wide = record { holding = length-replicate 256 zero64; pending = length-replicate 256 zero64; awaited = length-replicate 256 false };
-          present = table-present-length first;
+              (fun_ext none-held) (fun_ext (none-pending 256));
+          wide = record { holding = length-replicate 256 zero64; pending = length-replicate {A = Option Float} 256 None };
           rows = table-rows-length first;
           lot = s;
         };
@@ -146,7 +138,7 @@ module _ (costs : TradeCosts) (lot : ℕ) (first : List Quote) (l₀ : List Trad
       }
 
   built-meets : is_lot lot ≡ true → (build_for costs lot first l₀).fault ≡ 0 → Meets l₀ (built costs lot first l₀) (start (costs_of costs) lot first (length l₀))
-  built-meets s e = subst (λ b. Meets l₀ (record { broker = b; log = l₀ }) (start (costs_of costs) lot first (length l₀))) (sym (built-broker e)) (fresh_meets s (build-table e))
+  built-meets s e = rw (built-broker e) (fresh_meets s (build-table e))
 
 -- ---- the ledger has the claim
 
@@ -156,24 +148,24 @@ ledger-last L [] c = refl
 ledger-last L (d ∷ cs) c = ledger-last (Ledger.step L d) cs c
 
 -- a call that keeps the booked orders and the trades
-quiet-shape : (L M : Ledger) (c : Call) (new : List Taken) → ((n : ℕ) → deletes n c ≡ false) → tradable c ≡ none → Keeps L new M → Shape broker_calls L.orders c new M.orders
+quiet-shape : (L M : Ledger) (c : Call) (new : List Taken) → ((n : ℕ) → deletes n c ≡ false) → tradable c ≡ None → Keeps L new M → Shape broker_calls L.orders c new M.orders
 quiet-shape L M c new d t k = quiet broker_calls L.orders M.orders c new d t (record { waiting = k.waiting; booked = k.booked; trades = k.trades })
 
 -- a check that acts
-acting-shape : (L M : Ledger) (c : Call) (new : List Taken) (t f : List Quote) → ((n : ℕ) → deletes n c ≡ false) → tradable c ≡ some t → Keeps (booking L t f) new M →
+acting-shape : (L M : Ledger) (c : Call) (new : List Taken) (t f : List Quote) → ((n : ℕ) → deletes n c ≡ false) → tradable c ≡ Some t → Keeps (booking L t f) new M →
     Shape broker_calls L.orders c new M.orders
 acting-shape L M c new t f d s k = acting broker_calls L.orders M.orders c new t d s (record { waiting = k.waiting; booked = k.booked; trades = k.trades })
 
 check-shape : (L : Ledger) (t f : List Quote) (n : ℕ) → drawn (check_tests t f) ≡ n →
     Shape broker_calls L.orders (check t f) (unless_drawn n (takes_acting L (check t f)) []) (unless_drawn n (checking L t f) L).orders
-check-shape L t f zero e = acting-shape L (checking L t f) (check t f) _ t f (λ k. refl) (ap (λ k. unless_drawn k (some t) none) e) (keeps-checking L t f)
-check-shape L t f (suc n) e = quiet-shape L L (check t f) [] (λ k. refl) (ap (λ k. unless_drawn k (some t) none) e) (keeps L)
+check-shape L t f zero e = acting-shape L (checking L t f) (check t f) _ t f (λ k. refl) (ap (λ k. unless_drawn k (Some t) None) e) (keeps-checking L t f)
+check-shape L t f (suc n) e = quiet-shape L L (check t f) [] (λ k. refl) (ap (λ k. unless_drawn k (Some t) None) e) (keeps L)
 
 update-shape : (L : Ledger) (t f : List Quote) (w : List Weight) (e : List OrderEvent) (n : ℕ) → drawn (update_tests t f w (length e)) ≡ n →
     Shape broker_calls L.orders (update t f w e) (unless_drawn n (takes_acting L (update t f w e)) []) (unless_drawn n (after_weights (checking L t f) w) L).orders
 update-shape L t f w e zero d =
-    acting-shape L (after_weights (checking L t f) w) (update t f w e) _ t f (λ k. refl) (ap (λ k. unless_drawn k (some t) none) d) (keeps-both (keeps-checking L t f) (keeps-weights (checking L t f) w))
-update-shape L t f w e (suc n) d = quiet-shape L L (update t f w e) [] (λ k. refl) (ap (λ k. unless_drawn k (some t) none) d) (keeps L)
+    acting-shape L (after_weights (checking L t f) w) (update t f w e) _ t f (λ k. refl) (ap (λ k. unless_drawn k (Some t) None) d) (keeps-both (keeps-checking L t f) (keeps-weights (checking L t f) w))
+update-shape L t f w e (suc n) d = quiet-shape L L (update t f w e) [] (λ k. refl) (ap (λ k. unless_drawn k (Some t) None) d) (keeps L)
 
 step-shape : (L : Ledger) (c : Call) → Shape broker_calls L.orders c (takes L c) (Ledger.step L c).orders
 step-shape L (deposit a) = quiet-shape L _ (deposit a) _ (λ n. refl) refl (quiet-deposit L a)
@@ -186,7 +178,7 @@ step-shape L (delete n) = unfold Ledger.step Ledger.call_tests Ledger.acting dra
 step-shape L (check t f) = unfold Ledger.step Ledger.call_tests Ledger.acting in check-shape L t f (drawn (check_tests t f)) refl
 step-shape L (update t f w e) = unfold Ledger.step Ledger.call_tests Ledger.acting in update-shape L t f w e (drawn (update_tests t f w (length e))) refl
 
-apart : (n : ℕ) (c : Call) → deletes n c ≡ true → tradable c ≡ none
+apart : (n : ℕ) (c : Call) → deletes n c ≡ true → tradable c ≡ None
 apart n (deposit a) e = refl
 apart n (withdraw a) e = refl
 apart n (liquidate a) e = refl
@@ -194,8 +186,8 @@ apart n (send o) e = refl
 apart n (send_list l k) e = refl
 apart n (insert o) e = refl
 apart n (delete m) e = refl
-apart n (check t f) e = absurd (let z : ◌≡◌ {A = ℕ} 0 1 = cc in omega arith)
-apart n (update t f w k) e = absurd (let z : ◌≡◌ {A = ℕ} 0 1 = cc in omega arith)
+apart n (check t f) e = grind arith
+apart n (update t f w k) e = grind arith
 
 ledger-runs : (L : Ledger) → L.orders ≡ no_orders → Lives.Runs broker_calls (λ past c. takes (Ledger.run L past) c) (λ cs. (Ledger.run L cs).orders)
 unfolding Ledger.run
@@ -204,7 +196,7 @@ ledger-runs L z =
       apart = record { apart = apart };
       starts = z;
       shape = λ past c.
-          subst (λ M. Shape broker_calls (Ledger.run L past).orders c (takes (Ledger.run L past) c) M.orders) (sym (ledger-last L past c)) (step-shape (Ledger.run L past) c);
+          rw (ledger-last L past c) (step-shape (Ledger.run L past) c);
     }
 
 -- ---- demand 3: any builder's arguments that 01's conditions hold of, a log of any length that a slice has, every list of calls, refused ones included
@@ -216,23 +208,19 @@ demand-3 costs lot first l₀ d h cs =
     let L = start (costs_of costs) lot first (length l₀) in
     let s = built-meets costs lot first l₀ (lot-sound costs lot first l₀ d.lot-size) e in
     let m = run-meets l₀ h (built costs lot first l₀) L cs s in
-    let trades = (Ledger.run L cs).orders.trades in
+    let count = (Program.run (built costs lot first l₀) cs).broker.exchange.counts.logged in
+    let logged = ap (take count) m.log ∙ take-over (Ledger.run L cs).orders.trades l₀ count (sym m.stands.books.logged-is) in
     record {
       lived = Lives.lived broker_calls (λ past c. takes (Ledger.run L past) c) (λ xs. (Ledger.run L xs).orders) (ledger-runs L refl) cs;
       answered = run-answers l₀ h (built costs lot first l₀) L cs s;
       compared = record {
         log = m.log;
-        logged =
-            ap (take (Program.run (built costs lot first l₀) cs).broker.exchange.counts.logged) m.log
-            ∙ take-over trades l₀ (Program.run (built costs lot first l₀) cs).broker.exchange.counts.logged (sym m.stands.books.logged-is);
+        logged = logged;
         sound = no-sixteen l₀ h (Program.run (built costs lot first l₀) cs) (Ledger.run L cs) m;
         sound-alone = no-sixteen-alone l₀ h (Program.run (built costs lot first l₀) cs) (Ledger.run L cs) m;
         resting = m.stands.books.rest;
         waiting = m.stands.books.wait;
         money = m.stands.money;
-        basis = λ n.
-            ap (λ l. cost_basis l n)
-            (ap (take (Program.run (built costs lot first l₀) cs).broker.exchange.counts.logged) m.log
-            ∙ take-over trades l₀ (Program.run (built costs lot first l₀) cs).broker.exchange.counts.logged (sym m.stands.books.logged-is));
+        basis = λ n. ap (λ l. cost_basis l n) logged;
       };
     }

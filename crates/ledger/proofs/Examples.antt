@@ -1,5 +1,5 @@
 -- The examples of document 01, and two of them with a lot of 5, proved by computing. Assumes nothing.
-use mathlib.Core.Path.{refl}
+use Rattle.std.proofs.Common.{rules}
 use lib.Ieee as Ieee
 use Rattle.floats.specs.Lots.{lot_of, lot_shares}
 use Rattle.floats.specs.Whole.{floor_of, ceil_of}
@@ -23,8 +23,8 @@ use Rattle.ledger.specs.Examples.{Examples, LotExample}
 
 pub examples : Examples
 unfolding Ieee.le Ieee.of_int Ieee.sub Ieee.mul Ieee.div Ieee.of_bits floor_of ceil_of lot_shares drawn empty_table trade_on trade_impact trade_impact_total costs_of no_costs with_cost fresh insert_of ticked tick_of symbols liquidation_value sales_from sales_for shares_for order_for wanted plan_of basis_step cost_basis no_funds send_of sent_one event_for cash_moved withdraw_of liquidate_of liquidated_by
-examples other = (refl, (refl, (refl, (refl, (refl, (refl, (refl, (refl, (refl, (refl, (refl, (refl, (refl, (refl, _))))))))))))))
+examples other = search rules
 
 pub lot-example : LotExample
 unfolding Ieee.le Ieee.of_int Ieee.sub Ieee.mul Ieee.div Ieee.of_bits lot_of lot_shares drawn empty_table trade_impact trade_impact_total costs_of no_costs with_cost fresh symbols liquidation_value shares_for order_for wanted plan_of no_funds
-lot-example other = (refl, (refl, _))
+lot-example other = search rules

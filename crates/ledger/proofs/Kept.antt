@@ -3,7 +3,8 @@ use Prim.Native.Nat.{ℕ, zero, suc}
 use mathlib.Core.Bool.{Bool, true, false, cond}
 use mathlib.Core.Path.{◌≡◌, refl, ◌∙◌, sym, ap, subst}
 use mathlib.Core.List.{List, [], ◌∷◌, ◌++◌, append-nil, append_assoc}
-use mathlib.Core.Option.{Option, none, some}
+use Rattle.std.specs.declared.option.Option.{Option}
+use Rattle.std.specs.declared.option.Option.TheVariants.{None, Some}
 use lib.Ieee.{Float}
 use Rattle.lists.specs.Lists.{given}
 use Rattle.market.specs.Faults.{drawn, unless_drawn}
@@ -65,8 +66,8 @@ unfolding inserting
 keeps-inserting L o = keeps-unless (insert_event L o).fault L _ (plain o ∷ []) (keeps-taking L _ o refl refl)
 
 keeps_given : (L M : Ledger) (p : Option (List Order)) → Keeps L [] M → Keeps L (given p [] (sent_by L)) (given p M (sending_all L))
-keeps_given L M none k = k
-keeps_given L M (some l) k = keeps-sending-all L l
+keeps_given L M None k = k
+keeps_given L M (Some l) k = keeps-sending-all L l
 
 pub keeps-liquidating : (L : Ledger) (a : Float) → Keeps L (takes_selling L a) (liquidating L a)
 unfolding liquidating

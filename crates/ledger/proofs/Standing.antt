@@ -4,17 +4,16 @@ use native.Mathlib.Omega.{arith}
 use mathlib.Core.Bool.{Bool, true, false, not, cond, ◌||◌}
 use mathlib.Core.Path.{◌≡◌, refl, ◌∙◌, sym, ap, ap₂, subst}
 use mathlib.Core.List.{List, [], ◌∷◌, ◌++◌}
-use mathlib.Core.Option.{Option, none, some}
-use lib.Dec.{eqb, ltb}
+use Rattle.std.specs.declared.option.Option.{Option}
+use Rattle.std.specs.declared.option.Option.TheVariants.{None, Some}
 use lib.Ieee.{Float}
 use lib.ListN.{length}
-use borrow.Author.Tests.{ltb-false, eqb-false}
 use Rattle.lists.specs.Lists.{given}
-use Rattle.market.specs.Faults.{◌draws◌, drawn, unless_drawn}
+use Rattle.market.specs.Faults.{drawn, unless_drawn}
 use Rattle.market.specs.Orders.{event_of, order_tests}
 use Rattle.market.specs.declared.order.Order.{Order}
-use Rattle.market.proofs.Faults.{order-numbered, append-none, none-drawn}
-use Rattle.orders.specs.Orders.{plain, resting_in, book_width, take_on, erase}
+use Rattle.market.proofs.Faults.{order-numbered, append-none}
+use Rattle.orders.specs.Orders.{plain, resting_in, take_on, erase}
 use Rattle.floats.specs.Lots.{is_lot}
 use Rattle.exchange.specs.State.{broken_of, room_of}
 use Rattle.exchange.specs.Insert as Exchange
@@ -24,7 +23,7 @@ use Rattle.exchange.proofs.Counting.{sound-not-broken}
 use Rattle.exchange.proofs.Books.{Books, books-take, books-delete}
 use Rattle.rules.specs.Amounts.{minus, below}
 use Rattle.rules.specs.Money.{expected, with_cash}
-use Rattle.rules.specs.Sends.{send_tests_at, send_tests}
+use Rattle.rules.specs.Sends.{send_tests}
 use Rattle.rules.specs.Liquidation.{sales_for, debited_by}
 use Rattle.portfolio.specs.State.{money_of}
 use Rattle.broker.specs.Send as Send
@@ -42,7 +41,6 @@ pub record Stands (b : UistBroker) (L : Ledger) : Type 0 where
   pub books : Books b.exchange L.room L.orders
   pub money : money_of b.portfolio ≡ L.money
   pub wide : Wide b.portfolio.funds
-  pub present : length b.portfolio.latest.present ≡ 256
   pub rows : length b.portfolio.latest.rows ≡ 256
   pub lot : is_lot b.portfolio.lot ≡ true
 
@@ -64,18 +62,12 @@ module _ (b : UistBroker) (L : Ledger) (m : Stands b L) where
 
   -- the tests of room read the same
   rooms : room_of b.exchange.counts ≡ room_tests L
-  rooms =
-      let r = m.books in
-      ap₂ (λ x y. (x draws 10) ∷ (y draws 11) ∷ []) (ap₂ eqb r.taken_is r.room-is) (ap₂ (λ x y. eqb (x + y) book_width) r.rest-count r.wait-count)
+  rooms = let r = m.books in rw (r.taken_is, r.room-is, r.rest-count, r.wait-count)
 
   -- an order that draws neither 10 nor 11 has room
   room-left : drawn (room_tests L) ≡ 0 → (length L.orders.booked + length L.orders.waiting < L.room) × (resting_in L.orders.booked + length L.orders.waiting < 1024)
-  room-left e =
-      let ten = none-drawn (eqb (length L.orders.booked + length L.orders.waiting) L.room) 9 _ e in
-      let eleven = none-drawn (eqb (resting_in L.orders.booked + length L.orders.waiting) book_width) 10 [] ten.1 in
-      let p = eqb-false (length L.orders.booked + length L.orders.waiting) L.room ten.0 in
-      let q = eqb-false (resting_in L.orders.booked + length L.orders.waiting) book_width eleven.0 in
-      (omega (arith, m.books.fit.room-left, p), omega (arith, m.books.fit.places, q))
+  unfolding drawn
+  room-left e = (grind (arith, m.books.fit.room-left), grind (arith, m.books.fit.places))
 
   -- ---- a send
 
@@ -84,11 +76,8 @@ module _ (b : UistBroker) (L : Ledger) (m : Stands b L) where
   event-same o = ap₂ (λ x y. event_of o (drawn (send_tests x y o))) m.money rooms
 
   send-facts : (o : Order) → drawn (send_tests L.money (room_tests L) o) ≡ 0 → (o.symbol < 256) × (drawn (room_tests L) ≡ 0)
-  send-facts o e =
-      let at = send_tests_at L.money.failed L.money.cash (L.money.latest o.symbol) (L.money.held o.symbol) o in
-      let r = append-none (order_tests o) (at ++ room_tests L) (order-numbered o) e in
-      let one = none-drawn (ltb 255 o.symbol) 0 _ r.0 in
-      (omega (arith, ltb-false 255 o.symbol one.0), (append-none at (room_tests L) (tt, (tt, (tt, (tt, (tt, (tt, tt)))))) r.1).1)
+  unfolding drawn
+  send-facts o e = (grind arith, grind arith)
 
   taken-by : (o : Order) (n : ℕ) → drawn (send_tests L.money (room_tests L) o) ≡ n →
       Stands (unless_drawn n (taken_by b o) b) (unless_drawn n (record { room = L.room; money = expected o L.money; orders = take_on (plain o) L.orders }) L)
@@ -100,38 +89,31 @@ module _ (b : UistBroker) (L : Ledger) (m : Stands b L) where
         books = books-take b.exchange L.room L.orders m.books o h.0 h.1;
         money = expecting-view b.portfolio o s.0 m.wide ∙ ap (expected o) m.money;
         wide = expecting-wide b.portfolio.funds o m.wide;
-        present = m.present;
         rows = m.rows;
         lot = m.lot;
       }
 
   pub send-stands : (o : Order) → Stands (sent_one b o) (sending L o)
   unfolding sent_one sending
-  send-stands o =
-      subst (λ e. Stands (unless_drawn e.fault (taken_by b o) b) (unless_drawn (send_event L o).fault (record { room = L.room; money = expected o L.money; orders = take_on (plain o) L.orders }) L))
-      (sym (event-same o)) (unfold send_event in taken-by o (drawn (send_tests L.money (room_tests L) o)) refl)
+  send-stands o = rw (event-same o) (unfold send_event in taken-by o (drawn (send_tests L.money (room_tests L) o)) refl)
 
   -- ---- a direct insertion
 
   insert-number : (o : Order) → drawn (insert_tests b.exchange.counts o) ≡ drawn (order_tests o ++ room_tests L)
   unfolding drawn
-  insert-number o =
-      ap (λ t. drawn ((t draws 16) ∷ (order_tests o ++ room_of b.exchange.counts))) counts-hold
-      ∙ ap (λ l. drawn (order_tests o ++ l)) rooms
+  insert-number o = rw (counts-hold, rooms)
 
   inserted_by : (o : Order) (n : ℕ) → drawn (order_tests o ++ room_tests L) ≡ n →
       Stands (record { exchange = unless_drawn n (joined b.exchange o) b.exchange; portfolio = b.portfolio }) (unless_drawn n (with_orders L (take_on (plain o) L.orders)) L)
   inserted_by o (suc n) e = m
   inserted_by o zero e =
       let h = room-left (append-none (order_tests o) (room_tests L) (order-numbered o) e).1 in
-      record { books = books-take b.exchange L.room L.orders m.books o h.0 h.1; money = m.money; wide = m.wide; present = m.present; rows = m.rows; lot = m.lot }
+      record { books = books-take b.exchange L.room L.orders m.books o h.0 h.1; money = m.money; wide = m.wide; rows = m.rows; lot = m.lot }
 
   pub insert-stands : (o : Order) → Stands (Send.insert_of b o).broker (inserting L o)
   unfolding Send.insert_of Exchange.insert_of inserting insert_event
   insert-stands o =
-      rw unbroken
-      (subst (λ k. Stands (record { exchange = unless_drawn k (joined b.exchange o) b.exchange; portfolio = b.portfolio }) (unless_drawn (drawn (order_tests o ++ room_tests L)) (with_orders L (take_on (plain o) L.orders)) L))
-      (sym (insert-number o)) (inserted_by o (drawn (order_tests o ++ room_tests L)) refl))
+      rw (unbroken, insert-number o) (inserted_by o (drawn (order_tests o ++ room_tests L)) refl)
 
   pub insert-event : (o : Order) → (Send.insert_of b o).event ≡ insert_event L o
   unfolding Send.insert_of Exchange.insert_of insert_event
@@ -142,7 +124,7 @@ module _ (b : UistBroker) (L : Ledger) (m : Stands b L) where
   pub delete-stands : (n : ℕ) → Stands (Send.delete_of b n).broker (with_orders L (erase n L.orders))
   unfolding Send.delete_of Deletion.delete_of drawn
   delete-stands n =
-      rw (unbroken, counts-hold) (record { books = books-delete b.exchange L.room L.orders m.books n; money = m.money; wide = m.wide; present = m.present; rows = m.rows; lot = m.lot })
+      rw (unbroken, counts-hold) (record { books = books-delete b.exchange L.room L.orders m.books n; money = m.money; wide = m.wide; rows = m.rows; lot = m.lot })
 
   pub delete-number : (n : ℕ) → (Send.delete_of b n).fault ≡ 0
   unfolding Send.delete_of Deletion.delete_of drawn
@@ -155,8 +137,7 @@ module _ (b : UistBroker) (L : Ledger) (m : Stands b L) where
       record {
         books = m.books;
         money = ap (λ n. with_cash n x) m.money;
-        wide = record { holding = m.wide.holding; pending = m.wide.pending; awaited = m.wide.awaited };
-        present = m.present;
+        wide = record { holding = m.wide.holding; pending = m.wide.pending };
         rows = m.rows;
         lot = m.lot;
       }
@@ -191,18 +172,12 @@ failing-stands b L m a =
     (sym (cash-same b L m)) (debited-by b L m a (below L.money.cash a))
 
 liquidate-by : (b : UistBroker) (L : Ledger) → Stands b L → (a : Float) (p : Option (List Order)) → Stands (given p (failing b a) (sent_all b)) (given p (with_money L (debited_by a L.money)) (sending_all L))
-liquidate-by b L m a none = failing-stands b L m a
-liquidate-by b L m a (some l) = sends-stand b L l m
+liquidate-by b L m a None = failing-stands b L m a
+liquidate-by b L m a (Some l) = sends-stand b L l m
 
 pub liquidate-stands : (b : UistBroker) (L : Ledger) → Stands b L → (a : Float) → Stands (liquidated_by b a) (liquidating L a)
 unfolding liquidated_by liquidating
-liquidate-stands b L m a =
-    subst (λ p. Stands (given p (failing b a) (sent_all b)) (given (sales_for L.money a) (with_money L (debited_by a L.money)) (sending_all L)))
-    (sym (sales-same b L m a)) (liquidate-by b L m a (sales_for L.money a))
-
-found-same : {A : Type 0} (p : Option A) → Sales.succeeds p ≡ Ledger.found p
-found-same none = refl
-found-same (some x) = refl
+liquidate-stands b L m a = rw (sales-same b L m a) (liquidate-by b L m a (sales_for L.money a))
 
 pub success-same : (b : UistBroker) (L : Ledger) → Stands b L → (a : Float) → Sales.succeeds (sales_of b a) ≡ Ledger.succeeds L a
-success-same b L m a = ap Sales.succeeds (sales-same b L m a) ∙ found-same (sales_for L.money a)
+success-same b L m a = ap Sales.succeeds (sales-same b L m a)

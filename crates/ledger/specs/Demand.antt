@@ -1,6 +1,6 @@
 -- Demand 3: one statement about every list of calls from the builder's result. Definitions only.
 use Rattle.std.specs.Prelude.{ℕ, ◌≤◌, Bool, true, false, cond, ◌≡◌, List, [], ◌∷◌, ◌++◌, eqb, Float, length, take}
-use Rattle.std.proofs.Math.Option.{Option, none, some}
+use Rattle.std.specs.Prelude.{Option, None, Some}
 use Rattle.lists.specs.Lists.{over, gather, given, All}
 use Rattle.market.specs.Faults.{drawn, unless_drawn}
 use Rattle.market.specs.Orders.{zero64}
@@ -30,15 +30,15 @@ use Rattle.ledger.specs.Program.{Held, built}
 
 -- the tradable table of an unrefused check, alone or in an update: no number is drawn before it acts
 abbrev pub tradable : Call → Option (List Quote)
-tradable (deposit a) = none
-tradable (withdraw a) = none
-tradable (liquidate a) = none
-tradable (send o) = none
-tradable (send_list l e) = none
-tradable (insert o) = none
-tradable (delete n) = none
-tradable (check t f) = unless_drawn (drawn (check_tests t f)) (some t) none
-tradable (update t f w e) = unless_drawn (drawn (update_tests t f w (length e))) (some t) none
+tradable (deposit a) = None
+tradable (withdraw a) = None
+tradable (liquidate a) = None
+tradable (send o) = None
+tradable (send_list l e) = None
+tradable (insert o) = None
+tradable (delete n) = None
+tradable (check t f) = unless_drawn (drawn (check_tests t f)) (Some t) None
+tradable (update t f w e) = unless_drawn (drawn (update_tests t f w (length e))) (Some t) None
 
 abbrev pub deletes : ℕ → Call → Bool
 deletes n (deposit a) = false

@@ -1,7 +1,7 @@
 -- The table of proved examples of document 01, on the definitions that the program's contracts cite. Definitions only.
 use Rattle.std.specs.Prelude.{ℕ, false, ◌≡◌, pos, Float, set, take}
 use mathlib.Core.List.{List, [], ◌∷◌, foldl}
-use Rattle.std.proofs.Math.Option.{none, some}
+use Rattle.std.specs.Prelude.{None, Some}
 use Rattle.std.specs.Float.Ieee as Ieee
 use Rattle.std.specs.Float.{binary64}
 use Rattle.market.specs.Orders.{market_order, priced_order}
@@ -73,7 +73,7 @@ broker = in_lots 1
 abbrev pub holding : ℕ → ℕ → UistBroker → UistBroker
 holding s n b =
     let f = b.portfolio.funds in
-    with_funds b (record { holding = set f.holding s (num n); pending = f.pending; awaited = f.awaited; cash = f.cash; failed = f.failed })
+    with_funds b (record { holding = set f.holding s (num n); pending = f.pending; cash = f.cash; failed = f.failed })
 
 -- an exchange on which these orders wait
 abbrev pub waiting : List Order → UistV1
@@ -161,7 +161,7 @@ table other =
     (planned (broker no_costs (quote 1 other other ∷ quote 2 other (num 30) ∷ []) 1000) (weight 1 (num 0) ∷ weight 2 (halves 1) ∷ []))
     (plan_as 0 []) ∷
     -- buy 10 for 100, sell 10 for 120: no basis; buy 5 for 60: 12
-    example 13 (cost_basis (take 2 trades) 1 ∷ cost_basis trades 1 ∷ []) (none ∷ some (num 12) ∷ []) ∷
+    example 13 (cost_basis (take 2 trades) 1 ∷ cost_basis trades 1 ∷ []) (None ∷ Some (num 12) ∷ []) ∷
     -- hold 10 at bid 12.5, liquidate 26: sell 2
     example 14 (sold (liquidate_of (holding 1 10 (broker no_costs (quote 1 (halves 25) other ∷ []) 0)) (num 26))) (0, sell 1 2 ∷ []) ∷ []
 

@@ -1,7 +1,7 @@
 -- The plain ledger: document 01, section 6. It is fed the builder's arguments and the calls, and keeps nothing of the program's. Definitions only.
-use Rattle.std.specs.Prelude.{ℕ, Bool, true, false, not, cond, ltb, Float, length}
+use Rattle.std.specs.Prelude.{ℕ, Bool, false, not, cond, ltb, Float, length}
 use mathlib.Core.List.{List, [], ◌∷◌, ◌++◌, foldl}
-use Rattle.std.proofs.Math.Option.{Option, none, some}
+use Rattle.std.specs.Prelude.{None, is_some}
 use Rattle.std.specs.Float.Ieee.Scale.{finite}
 use Rattle.lists.specs.Lists.{over, given}
 use Rattle.market.specs.Faults.{Test, ◌draws◌, drawn, unless_drawn}
@@ -33,7 +33,7 @@ unfoldable pub start : List BrokerCost → ℕ → List Quote → ℕ → Ledger
 start costs lot t room =
     record {
       room = room;
-      money = record { costs = costs; lot = lot; latest = foldl fetch_one (λ n. none) t; failed = false; cash = zero64; held = λ n. none; pending = λ n. none };
+      money = record { costs = costs; lot = lot; latest = foldl fetch_one (λ n. None) t; failed = false; cash = zero64; held = λ n. None; pending = λ n. None };
       orders = no_orders;
     }
 
@@ -75,12 +75,8 @@ inserting L o = unless_drawn (insert_event L o).fault (with_orders L (take_on (p
 unfoldable pub liquidating : Ledger → Float → Ledger
 liquidating L a = given (sales_for L.money a) (with_money L (debited_by a L.money)) (sending_all L)
 
-abbrev pub found : {A : Type 0} → Option A → Bool
-found none = false
-found (some x) = true
-
 abbrev pub succeeds : Ledger → Float → Bool
-succeeds L a = found (sales_for L.money a)
+succeeds L a = is_some (sales_for L.money a)
 
 -- ---- a check
 

@@ -5,7 +5,8 @@ use mathlib.Core.Bool.{Bool, true, false, not, ◌||◌}
 use mathlib.Core.List.{List, ◌∷◌, ◌++◌}
 use native.Mathlib.Omega.{arith}
 use lib.Dec.{eqb}
-use lib.ListN.{length}
+use lib.ListN.{length, take}
+use lib.Seq.{length-take-le}
 use borrow.Author.Tests.{eqb-true}
 use Rattle.lists.specs.Lists.{All}
 use Rattle.market.specs.Faults.{Test, drawn, unless_drawn}
@@ -46,8 +47,11 @@ whole b n l e =
     record { same = eqb-true n c.room t.0; sound = counts-sound c b.portfolio.lot t.1 }
 
 -- the rows that are read then are the log's
-pub rows_fit : (b : UistBroker) (log : List Trade) (l : List Test) (m n : ℕ) → m ≡ drawn (log_test b log ∷ l) → n ≡ unless_drawn m b.exchange.counts.logged 0 → n ≤ length log
-rows_fit b log l zero n e r =
+rows-within : (b : UistBroker) (log : List Trade) (l : List Test) (m n : ℕ) → m ≡ drawn (log_test b log ∷ l) → n ≡ unless_drawn m b.exchange.counts.logged 0 → n ≤ length log
+rows-within b log l zero n e r =
     let w = whole b (length log) l (sym e) in
     omega (arith, w.same, w.sound.logs, w.sound.bounded)
-rows_fit b log l (suc m) n e r = omega arith
+rows-within b log l (suc m) n e r = omega arith
+
+pub rows_fit : (b : UistBroker) (log : List Trade) (l : List Test) {m n : ℕ} → m ≡ drawn (log_test b log ∷ l) → n ≡ unless_drawn m b.exchange.counts.logged 0 → n ≡ length (take n log)
+rows_fit b log l {m} {n} e r = sym (length-take-le n log (rows-within b log l m n e r))

@@ -1,12 +1,10 @@
--- The folds of a log's first rows: one row more, and the answers that they come to. Assumes nothing.
-use Prim.Native.Nat.{ℕ, ◌+◌, ◌<◌}
+-- The answers that the folds of a log's first rows come to. Assumes nothing.
+use Prim.Native.Nat.{ℕ}
 use mathlib.Core.Path.{◌≡◌, ◌∙◌, ap, subst}
-use mathlib.Core.List.{List, foldl, foldl-append}
-use mathlib.Core.Option.{none}
-use native.Mathlib.Numerals.{add-one}
+use mathlib.Core.List.{List}
+use Rattle.std.specs.declared.option.Option.TheVariants.{None}
 use lib.Ieee.{Float}
-use lib.ListN.{length, take, get_or}
-use lib.Seq.{take-suc}
+use lib.ListN.{take}
 use Rattle.market.specs.Faults.{unless_drawn}
 use Rattle.market.specs.Orders.{zero64}
 use Rattle.market.specs.declared.trade.Trade.{Trade}
@@ -21,35 +19,23 @@ use Rattle.broker.specs.declared.read.FloatRead.{FloatRead}
 use Rattle.lent.specs.Logs.{logged_in, turnover_fault, basis_fault, basis_over}
 use Rattle.lent.proofs.Faults.{unless-same}
 
--- ---- steps
-
-module _ {A : Type 0} (f : A → Trade → A) (a : A) where
-  fold_more : (l : List Trade) (i : ℕ) (d : Trade) → i < length l → f (foldl f a (take i l)) (get_or l i d) ≡ foldl f a (take (i + 1) l)
-  fold_more l i d h = rw (add-one, take-suc l i d, foldl-append)
-
-  -- a turn of a fold's loop: x is folded from the rows before i, y from x and row i
-  pub fold-turn : (l : List Trade) (i : ℕ) (d : Trade) (x y : A) → i < length l → x ≡ foldl f a (take i l) → y ≡ f x (get_or l i d) → y ≡ foldl f a (take (i + 1) l)
-  fold-turn l i d x y h e g = g ∙ ap (λ (z : A). f z (get_or l i d)) e ∙ fold_more l i d h
-
--- ---- answers
-
-module _ (b : UistBroker) (log : List Trade) (m n : ℕ) (rows : n ≡ unless_drawn m b.exchange.counts.logged 0) where
+module _ (b : UistBroker) (log : List Trade) {m n : ℕ} (rows : n ≡ unless_drawn m b.exchange.counts.logged 0) where
   -- where nothing is drawn the rows are the log's trades
   logged-rows : m ≡ 0 → take n log ≡ logged_in b log
   logged-rows z = ap (λ (k : ℕ). take k log) (rows ∙ ap (λ (k : ℕ). unless_drawn k b.exchange.counts.logged 0) z)
 
-  pub reads-basis : (s : ℕ) (x : Rules.Basis) (r : AmountRead) → m ≡ basis_fault b log s → x ≡ basis_over s (take n log) → ReadsAmount (basis_of x) m r → ReadsAmount (cost_basis (logged_in b log) s) (basis_fault b log s) r
+  pub reads-basis : (s : ℕ) {x : Rules.Basis} {r : AmountRead} → m ≡ basis_fault b log s → x ≡ basis_over s (take n log) → ReadsAmount (basis_of x) m r → ReadsAmount (cost_basis (logged_in b log) s) (basis_fault b log s) r
   unfolding cost_basis
-  reads-basis s x r e f a =
+  reads-basis s {x} {r} e f a =
       subst (λ (k : ℕ). ReadsAmount (cost_basis (logged_in b log) s) k r) e
       (record {
-        amount = a.amount ∙ unless-same m (basis_of x) (cost_basis (logged_in b log) s) none (λ z. ap basis_of (f ∙ ap (basis_over s) (logged-rows z)));
+        amount = a.amount ∙ unless-same m (basis_of x) (cost_basis (logged_in b log) s) None (λ z. ap basis_of (f ∙ ap (basis_over s) (logged-rows z)));
         fault = a.fault;
       })
 
-  pub reads-turnover : (s : Sums) (v : Float) (r : FloatRead) → m ≡ turnover_fault b log → s ≡ turnover_sums (take n log) → v ≡ lesser s → r ≡ read_float v m → r ≡ read_float (turnover (logged_in b log)) (turnover_fault b log)
+  pub reads-turnover : {s : Sums} {v : Float} {r : FloatRead} → m ≡ turnover_fault b log → s ≡ turnover_sums (take n log) → v ≡ lesser s → r ≡ read_float v m → r ≡ read_float (turnover (logged_in b log)) (turnover_fault b log)
   unfolding read_float turnover
-  reads-turnover s v r e f g a =
+  reads-turnover {s} {v} {r} e f g a =
       a
       ∙ ap (λ (y : Float). record { value = y; fault = m }) (unless-same m v (turnover (logged_in b log)) zero64 (λ z. g ∙ ap lesser (f ∙ ap turnover_sums (logged-rows z))))
       ∙ ap (λ (k : ℕ). read_float (turnover (logged_in b log)) k) e

@@ -9,7 +9,7 @@ use lib.ListN.{length, take, get_or, set, length-take}
 use lib.Seq.{take-suc, take_all}
 use borrow.Author.Tests.{ltb-false}
 use Rattle.lists.specs.Lists.{over}
-use Rattle.lists.proofs.Over.{over-more, length_over}
+use Rattle.lists.proofs.Over.{over-more}
 use Rattle.market.specs.Faults.{drawn, unless_drawn}
 use Rattle.market.specs.declared.order.Order.{Order}
 use Rattle.market.proofs.Faults.{none-drawn}
@@ -21,7 +21,6 @@ use Rattle.broker.specs.declared.send.Sent.{Sent}
 use Rattle.broker.proofs.Sending.{sent-unbroken}
 use Rattle.broker.specs.Lender.{broken, lender_tests}
 use Rattle.lent.specs.Answers.{AnswersSend}
-use Rattle.lent.specs.declared.uist.SendAnswer.{SendAnswer}
 
 -- ---- a list with one order more
 
@@ -61,84 +60,67 @@ module _ (b : UistBroker) (o : Order) (x : Sent) (is : x ≡ send_of b o) (s : b
 
 -- ---- the loop: after i turns the first i orders were sent, and their events stand in the first places
 
-pub record Sends (start : UistBroker) (l : List Order) (e : List OrderEvent) (n : ℕ) (b : UistBroker) (events : List OrderEvent) (i : ℕ) : Type 0 where
-  pub within : i ≤ n
-  pub sound : 0 < n → broken b ≡ false
+pub record Sends (start : UistBroker) (l : List Order) (e : List OrderEvent) (b : UistBroker) (events : List OrderEvent) (i : ℕ) : Type 0 where
+  pub sound : 0 < length l → broken b ≡ false
   pub broker : b ≡ sent_all start (take i l)
   pub told : events ≡ over (events_of start (take i l)) e
 
-module _ (start : UistBroker) (l : List Order) (e : List OrderEvent) (n : ℕ) where
-  pub sends_none : (0 < n → broken start ≡ false) → Sends start l e n start e 0
-  sends_none s = record { within = omega arith; sound = s; broker = refl; told = ap (λ (z : List OrderEvent). over z e) (sym (events-none start)) }
+module _ (start : UistBroker) (l : List Order) (e : List OrderEvent) where
+  pub sends_none : (0 < length l → broken start ≡ false) → Sends start l e start e 0
+  sends_none s = record { sound = s; broker = refl; told = ap (λ (z : List OrderEvent). over z e) (sym (events-none start)) }
 
-  module _ (fits : n ≤ length l) (room : n ≤ length e) (b : UistBroker) (events : List OrderEvent) (i : ℕ) (v : Sends start l e n b events i) where
-    told-long : length (events_of start (take i l)) ≡ i
-    told-long = length-events start (take i l) ∙ length-take i l ∙ omega (arith, v.within)
+  pub sends-one : (room : length l ≤ length e) {b : UistBroker} {events : List OrderEvent} {i : ℕ} → Sends start l e b events i → i < length l → (d : Order) (x : Sent) →
+      x ≡ send_of b (get_or l i d) → Sends start l e x.broker (set events i x.event) (i + 1)
+  sends-one room {b} {events} {i} v h d x is =
+      let o = get_or l i d in
+      let s = v.sound (omega arith) in
+      let long : length (events_of start (take i l)) ≡ i = length-events start (take i l) ∙ length-take i l ∙ omega arith in
+      let next : take (i + 1) l ≡ take i l ++ (o ∷ []) = rw (add-one, take-suc l i d) in
+      let here : x.broker ≡ sent_one b o = moved-broker b o x is s in
+      let event : x.event ≡ event_for (sent_all start (take i l)) o = moved-event b o x is s ∙ ap (λ (k : UistBroker). event_for k o) v.broker in
+      let more : events_of start (take (i + 1) l) ≡ events_of start (take i l) ++ (x.event ∷ [])
+      = ap (events_of start) next ∙ events-append start (take i l) (o ∷ [])
+      ∙ ap (λ (z : List OrderEvent). events_of start (take i l) ++ z) (events-one (sent_all start (take i l)) o ∙ ap (λ (k : OrderEvent). k ∷ []) (sym event)) in
+      record {
+        sound = λ z. rw here (sent-unbroken b o s);
+        broker = here ∙ ap (λ (k : UistBroker). sent_one k o) v.broker ∙ sym (ap (sent_all start) next ∙ sent-append start (take i l) (o ∷ []));
+        told = ap (λ (z : List OrderEvent). set z i x.event) v.told
+            ∙ over-more (events_of start (take i l)) e i x.event (sym long) (omega (arith, long))
+            ∙ ap (λ (z : List OrderEvent). over z e) (sym more);
+      }
 
-    -- the list of events keeps its length
-    pub told-length : length events ≡ length e
-    told-length = ap length v.told ∙ length_over (events_of start (take i l)) e (omega (arith, told-long, v.within))
+-- ---- the call, of whose orders the first n are sent
 
-    pub sends-one : (d : Order) → i < n → (x : Sent) → x ≡ send_of b (get_or l i d) → (y : OrderEvent) (b' : UistBroker) → y ≡ x.event → b' ≡ x.broker →
-        Sends start l e n b' (set events i y) (i + 1)
-    sends-one d h x is y b' is_y is_b =
-        let o = get_or l i d in
-        let s = v.sound (omega arith) in
-        let low : i < length l = omega arith in
-        let next : take (i + 1) l ≡ take i l ++ (o ∷ []) = rw (add-one, take-suc l i d) in
-        let here : b' ≡ sent_one b o = is_b ∙ moved-broker b o x is s in
-        let event : y ≡ event_for (sent_all start (take i l)) o = is_y ∙ moved-event b o x is s ∙ ap (λ (k : UistBroker). event_for k o) v.broker in
-        let more : events_of start (take (i + 1) l) ≡ events_of start (take i l) ++ (y ∷ [])
-        = ap (events_of start) next ∙ events-append start (take i l) (o ∷ [])
-        ∙ ap (λ (z : List OrderEvent). events_of start (take i l) ++ z) (events-one (sent_all start (take i l)) o ∙ ap (λ (k : OrderEvent). k ∷ []) (sym event)) in
-        record {
-          within = omega arith;
-          sound = λ z. rw here (sent-unbroken b o s);
-          broker = here ∙ ap (λ (k : UistBroker). sent_one k o) v.broker ∙ sym (ap (sent_all start) next ∙ sent-append start (take i l) (o ∷ []));
-          told = ap (λ (z : List OrderEvent). set z i y) v.told
-              ∙ over-more (events_of start (take i l)) e i y (sym told-long) (omega (arith, told-long))
-              ∙ ap (λ (z : List OrderEvent). over z e) (sym more);
-        }
-
--- ---- the call
-
-module _ (b : UistBroker) (l : List Order) (e : List OrderEvent) (m n : ℕ) (is_m : m ≡ drawn (lender_tests b (length l) (length e))) (is-n : n ≡ unless_drawn m (length l) 0) where
+module _ (b : UistBroker) (l : List Order) (e : List OrderEvent) {m n : ℕ} (is_m : m ≡ drawn (lender_tests b (length l) (length e))) (is-n : n ≡ unless_drawn m (length l) 0) where
   -- where no number is drawn there is no 16, and there is a place for each event
   lent : m ≡ 0 → (broken b ≡ false) × (length l ≤ length e)
   lent z =
       let p = none-drawn (broken b) 15 _ (sym is_m ∙ z) in
       (p.0, ltb-false (length e) (length l) (none-drawn _ 14 _ p.1).0)
 
-  rows-by : (k : ℕ) → m ≡ k → n ≡ unless_drawn k (length l) 0 → (n ≤ length l) × (n ≤ length e)
-  rows-by zero z r = (omega arith, omega (arith, (lent z).1))
-  rows-by (suc k) z r = (omega arith, omega arith)
+  sent-by : (k : ℕ) → m ≡ k → n ≡ unless_drawn k (length l) 0 → (n ≤ length l) × (length (take n l) ≤ length e) × (0 < length (take n l) → broken b ≡ false)
+  sent-by zero z r = (omega arith, omega (arith, (lent z).1, length-take n l), λ h. (lent z).0)
+  sent-by (suc k) z r = (omega arith, omega (arith, length-take n l), λ h. absurd (omega (arith, length-take n l)))
 
-  pub rows-sent : (n ≤ length l) × (n ≤ length e)
-  rows-sent = rows-by m refl is-n
+  pub sent-fits : (n ≤ length l) × (length (take n l) ≤ length e) × (0 < length (take n l) → broken b ≡ false)
+  sent-fits = sent-by m refl is-n
 
-  sound-by : (k : ℕ) → m ≡ k → n ≡ unless_drawn k (length l) 0 → 0 < n → broken b ≡ false
-  sound-by zero z r h = (lent z).0
-  sound-by (suc k) z r h = absurd (omega arith)
+  all-by : (k : ℕ) → n ≡ unless_drawn k (length l) 0 → take n l ≡ unless_drawn k l []
+  all-by zero r = take_all n l (omega arith)
+  all-by (suc k) r = rw r
 
-  pub sound-sent : 0 < n → broken b ≡ false
-  sound-sent = sound-by m refl is-n
+  drawn-one : (k : ℕ) → (sent_all b (unless_drawn k l []) ≡ unless_drawn k (sent_all b l) b)
+      × (over (events_of b (unless_drawn k l [])) e ≡ unless_drawn k (over (events_of b l) e) e)
+  drawn-one zero = (refl, refl)
+  drawn-one (suc k) = (refl, ap (λ (z : List OrderEvent). over z e) (events-none b))
 
-  module _ (c : UistBroker) (events : List OrderEvent) (i : ℕ) (v : Sends b l e n c events i) (end : i ≡ n) where
-    all-by : (k : ℕ) → n ≡ unless_drawn k (length l) 0 → (c ≡ unless_drawn k (sent_all b l) b) × (events ≡ unless_drawn k (over (events_of b l) e) e)
-    all-by zero r =
-        let all : take i l ≡ l = take_all i l (omega arith) in
-        (v.broker ∙ ap (sent_all b) all, v.told ∙ ap (λ (z : List Order). over (events_of b z) e) all)
-    all-by (suc k) r =
-        let none : take i l ≡ [] = ap (λ (j : ℕ). take j l) (end ∙ r) in
-        (v.broker ∙ ap (sent_all b) none, v.told ∙ ap (λ (z : List Order). over (events_of b z) e) none ∙ ap (λ (z : List OrderEvent). over z e) (events-none b))
-
-    pub send-answers : (r : SendAnswer) → r ≡ record { broker = c; fault = m } → AnswersSend b l e r events
-    unfolding send_list_fault send_list_broker send_list_events
-    send-answers r is-r =
-        let all = all-by m is-n in
-        rw is-r
-        (record {
-          broker = all.0 ∙ ap (λ (k : ℕ). unless_drawn k (sent_all b l) b) is_m;
-          fault = is_m;
-          events = all.1 ∙ ap (λ (k : ℕ). unless_drawn k (over (events_of b l) e) e) is_m;
-        })
+  pub send-answers : {c : UistBroker} {events : List OrderEvent} {i : ℕ} → Sends b (take n l) e c events i → length (take n l) ≤ i → AnswersSend b l e (record { broker = c; fault = m }) events
+  unfolding send_list_fault send_list_broker send_list_events
+  send-answers {c} {events} {i} v end =
+      let all : take i (take n l) ≡ unless_drawn m l [] = take_all i (take n l) end ∙ all-by m is-n in
+      let of = drawn-one m in
+      record {
+        broker = v.broker ∙ ap (sent_all b) all ∙ of.0 ∙ ap (λ (k : ℕ). unless_drawn k (sent_all b l) b) is_m;
+        fault = is_m;
+        events = v.told ∙ ap (λ (z : List Order). over (events_of b z) e) all ∙ of.1 ∙ ap (λ (k : ℕ). unless_drawn k (over (events_of b l) e) e) is_m;
+      }

@@ -1,18 +1,15 @@
 -- An update by value on what was read off lent rows is the one that the crate broker's specs/Lent.antt states; its trades fit the log, and its events the list for them.
 -- Assumes nothing.
-use Prim.Native.Nat.{ℕ, zero, suc, ◌+◌, ◌≤◌}
-use mathlib.Core.Path.{◌≡◌, refl, sym, ◌∙◌, ap}
+use Prim.Native.Nat.{ℕ, ◌+◌, ◌≤◌}
+use mathlib.Core.Path.{◌≡◌, sym, ◌∙◌, ap}
 use mathlib.Core.List.{List, [], ◌∷◌, ◌++◌, append_assoc}
-use native.Mathlib.Nat.{zero-add}
 use native.Mathlib.Omega.{arith}
 use lib.Dec.{ltb}
-use lib.ListN.{length, drop}
-use lib.Seq.{paste, paste-zero}
+use lib.ListN.{length, take}
 use borrow.Author.Tests.{ltb-false}
-use Rattle.lists.specs.Lists.{over}
-use Rattle.lists.proofs.Over.{paste-over}
+use Rattle.lists.specs.Lists.{over, stored}
 use Rattle.market.specs.Faults.{drawn, unless_drawn, first_drawn}
-use Rattle.market.specs.Weights.{weight_rows}
+use Rattle.market.specs.Weights.{weight_rows, weights_of, weighed}
 use Rattle.market.specs.Orders.{zero64}
 use Rattle.market.specs.Quotes.{table_tests, table_of}
 use Rattle.market.specs.declared.order.Order.{Order}
@@ -22,12 +19,12 @@ use Rattle.market.specs.declared.trade.Trade.{Trade}
 use Rattle.market.specs.declared.weight.Weight.{Weight}
 use Rattle.market.proofs.Faults.{drawn-append, numbered-append, none-drawn, append-none}
 use Rattle.market.proofs.Tables.{table-numbered, table-fault}
+use Rattle.market.proofs.Weights.{weights-fault, weights-all}
 use Rattle.exchange.specs.Tick.{no_trades}
 use Rattle.rules.specs.Values.{total_value}
 use Rattle.rules.specs.Weights.{Plan}
 use Rattle.portfolio.specs.State.{money_of}
 use Rattle.broker.specs.Send.{events_of, no_events}
-use Rattle.market.specs.Weights.{weighed}
 use Rattle.broker.specs.Update.{update_fault, plan_after, weighed_by, Updates}
 use Rattle.broker.specs.Lender.{log_test, broker_log_fault, short_test}
 use Rattle.broker.specs.Lent.{trades_in, log_with, update_for, checked_on, plan_on, update_fault_of, update_broker, update_total, update_sent, update_events, update_log}
@@ -38,36 +35,31 @@ use Rattle.broker.specs.declared.update.Lengths.{Lengths}
 use Rattle.broker.specs.declared.update.Updated.{Updated}
 use Rattle.broker.proofs.Settling.{tick-trades}
 use Rattle.broker.proofs.Updating.{update-none}
-use Rattle.lent.specs.Walks.{ReadsWeights}
 use Rattle.lent.specs.Answers.{AnswersUpdate}
 use Rattle.lent.specs.declared.uist.UpdateAnswer.{UpdateAnswer}
 use Rattle.lent.proofs.Faults.{unless-same}
-use Rattle.lent.proofs.Checked.{stored-by, fits_by, trades-fit}
+use Rattle.lent.proofs.Storing.{count-most, front-is, stored-by, fits_by, fits-first, over-by}
+use Rattle.lent.proofs.Checked.{trades-fit}
 use Rattle.lent.proofs.Sends.{length-events}
 use Rattle.lent.proofs.Plans.{weighed-few, planned-few}
 
 abbrev pub answer_in : Updated → UpdateAnswer
 answer_in x = record { broker = x.broker; total = x.total; sent = x.sent; fault = x.fault }
 
--- events that stand first in an array, stored from the first place of a list on
-events-stored : (e : List OrderEvent) (b : UistBroker) (rows : List OrderEvent) (sent : ℕ) (l : List Order) → rows ≡ over (events_of b l) no_events → sent ≡ length l →
-    paste e 0 rows sent ≡ over (events_of b l) e
-events-stored e b rows sent l are counted =
-    ap (λ (k : List OrderEvent). paste e 0 k sent) are
-    ∙ paste-over e 0 (events_of b l) no_events sent (length-events b l ∙ sym counted)
-    ∙ ap (λ (k : ℕ). events_of b l ++ drop k e) (zero-add (length (events_of b l)))
-
 module _ (b : UistBroker) (t f : List Quote) (w : List Weight) (e : List OrderEvent) (log : List Trade) where
   abbrev lengths : Lengths
   lengths = record { log = length log; events = length e; weights = length w }
 
-  update-number : (r : Weights) → ReadsWeights w r → update_fault b lengths (table_of t).fault (table_of f).fault r.fault ≡ update_for b t f w e log
+  abbrev r : Weights
+  r = weights_of w
+
+  update-number : update_fault b lengths (table_of t).fault (table_of f).fault r.fault ≡ update_for b t f w e log
   unfolding update_fault update_for
-  update-number r a =
+  update-number =
       let rt = table_tests 0 t in
       let rf = table_tests 0 f in
       let rows = weight_rows 0 w in
-      rw (table-fault t, table-fault f, a.fault)
+      rw (table-fault t, table-fault f, weights-fault w)
       (ap (first_drawn (broker_log_fault b (length log)))
       (ap (first_drawn (drawn (short_test (length w) (length e) ∷ [])))
       (ap (first_drawn (drawn rt)) (sym (drawn-append rf rows (table-numbered 0 f)))
@@ -91,79 +83,86 @@ module _ (b : UistBroker) (t f : List Quote) (w : List Weight) (e : List OrderEv
     unfolding update_for
     fit-log = trades-fit b t log _ z
 
-  module _ (u v : Table) (r : Weights) (x : Lengths) (n : ℕ) (y : Updated) (ru : u ≡ table_of t) (rv : v ≡ table_of f) (read : ReadsWeights w r) (rx : x ≡ lengths)
-      (done : Updates b u v r x n y) where
+  module _ {u v : Table} {k : Weights} {n : ℕ} {y : Updated} (ru : u ≡ table_of t) (rv : v ≡ table_of f) (rk : k ≡ r) (done : Updates b u v k lengths n y) where
     updates : Updates b (table_of t) (table_of f) r lengths n y
-    updates = rw (ru, rv, rx) at done
+    updates = rw (ru, rv, rk) at done
 
     number_is : n ≡ update_for b t f w e log
-    number_is = updates.before ∙ update-number r read
+    number_is = updates.before ∙ update-number
 
     rows_are : n ≡ 0 → weighed r ≡ w
-    rows_are z = read.rows (read.fault ∙ (none-later (sym number_is ∙ z)).1)
+    rows_are z = weights-all w (none-later (sym number_is ∙ z)).1
 
     plan-is : n ≡ 0 → plan_after (checked_on b t f) (weighed r) ≡ plan_on b t f w
     plan-is z = ap (plan_after (checked_on b t f)) (rows_are z)
 
-    module _ (trades : List Trade) (count first : ℕ) (is-trades : trades ≡ y.trades) (is-count : count ≡ y.count) (is-first : first ≡ y.first) where
-      pub log-fits : (count ≤ 1024) × (first + count ≤ length log)
-      log-fits =
-          fits_by log no_trades (trades_in b t) trades b.exchange.counts.logged first count n 1024 (λ z. fit-log (sym number_is ∙ z))
-          (is-count ∙ updates.count) (is-first ∙ updates.first)
+    trades-front : take y.count y.trades ≡ unless_drawn n (trades_in b t) []
+    trades-front =
+        front-is n y.count y.trades (trades_in b t) no_trades
+        (λ z. updates.trades
+        ∙ tick-trades b (table_of t) (length log) (table_of f).fault (update-none b lengths (table_of t).fault (table_of f).fault r.fault (sym updates.before ∙ z))) updates.count
 
-      pub log_is : (after : List Trade) → after ≡ paste log first trades count → after ≡ update_log b t f w e log
-      unfolding update_log
-      log_is after is-after =
-          is-after
-          ∙ stored-by log no_trades (trades_in b t) trades b.exchange.counts.logged first count n
-          (λ z. is-trades ∙ updates.trades
-          ∙ tick-trades b (table_of t) (length log) (table_of f).fault (update-none b lengths (table_of t).fault (table_of f).fault r.fault (sym updates.before ∙ z))) (is-count ∙ updates.count) (is-first ∙ updates.first)
-          ∙ ap (λ (k : ℕ). unless_drawn k (log_with b t log) log) number_is
+    pub log-fits : (y.count ≤ 1024) × (y.first + length (take y.count y.trades) ≤ length log)
+    log-fits = (
+      count-most n y.count 1024 (trades_in b t) (λ z. (fit-log (sym number_is ∙ z)).0) updates.count,
+      fits_by n y.first b.exchange.counts.logged log (take y.count y.trades) (trades_in b t) trades-front updates.first (λ z. (fit-log (sym number_is ∙ z)).1),
+    )
 
-    module _ (rows : List OrderEvent) (sent : ℕ) (is-rows : rows ≡ y.events) (is-sent : sent ≡ y.sent) where
-      sent-by : sent ≡ unless_drawn n (length (plan_on b t f w).orders) 0
-      sent-by =
-          is-sent ∙ updates.sent
-          ∙ unless-same n (length (plan_after (checked_on b t f) (weighed r)).orders) (length (plan_on b t f w).orders) 0 (λ z. ap (λ (p : Plan). length p.orders) (plan-is z))
+    -- the orders, and the events of the orders, where no number is drawn
+    abbrev orders : List Order
+    orders = (plan_on b t f w).orders
 
-      events-fit-by : (k : ℕ) → n ≡ k → sent ≡ unless_drawn k (length (plan_on b t f w).orders) 0 → (sent ≤ 256) × (0 + sent ≤ length e)
-      events-fit-by zero z s =
-          let l = none-later (sym number_is ∙ z) in
-          let few = planned-few (money_of (checked_on b t f).portfolio) w in
-          (omega (arith, s, few, weighed-few w r read (read.fault ∙ l.1)), omega (arith, s, few, l.0))
-      events-fit-by (suc k) z s = (omega (arith, s), omega (arith, s))
+    abbrev events_in : Plan → List OrderEvent
+    events_in p = events_of (checked_on b t f) p.orders
 
-      pub events-fit : (sent ≤ 256) × (0 + sent ≤ length e)
-      events-fit = events-fit-by n refl sent-by
+    few : n ≡ 0 → (length (events_in (plan_on b t f w)) ≤ 256) × (length (events_in (plan_on b t f w)) ≤ length e)
+    few z =
+        let l = none-later (sym number_is ∙ z) in
+        let most = planned-few (money_of (checked_on b t f).portfolio) w in
+        let same = length-events (checked_on b t f) orders in
+        (omega (arith, same, most, weighed-few w l.1), omega (arith, same, most, l.0))
 
-      events-by : (k : ℕ) → n ≡ k → sent ≡ unless_drawn k (length (plan_on b t f w).orders) 0 →
-          paste e 0 rows sent ≡ unless_drawn k (over (events_of (checked_on b t f) (plan_on b t f w).orders) e) e
-      events-by zero z s =
-          let after = checked_on b t f in
-          let written : Plan → List OrderEvent = λ p. over (events_of after p.orders) no_events in
-          events-stored e after rows sent (plan_on b t f w).orders
-          (is-rows ∙ updates.events ∙ ap (λ (k : ℕ). unless_drawn k (written (plan_after after (weighed r))) no_events) z ∙ ap written (plan-is z)) s
-      events-by (suc k) z s = ap (paste e 0 rows) s ∙ sym (paste-zero e 0 rows)
+    sent-by : y.sent ≡ unless_drawn n (length orders) 0
+    sent-by =
+        updates.sent
+        ∙ unless-same n (length (plan_after (checked_on b t f) (weighed r)).orders) (length orders) 0 (λ z. ap (λ (p : Plan). length p.orders) (plan-is z))
 
-      pub update-answers : (a : UpdateAnswer) (told : List OrderEvent) (after : List Trade) → a ≡ answer_in y → told ≡ paste e 0 rows sent → after ≡ update_log b t f w e log →
-          AnswersUpdate b t f w e log a told after
-      unfolding update_fault_of update_broker update_total update_sent update_events
-      update-answers a told after is-a is-told is-after =
-          rw is-a
-          (record {
-            broker = updates.broker
-                ∙ unless-same n (weighed_by (checked_on b t f) (weighed r)) (weighed_by (checked_on b t f) w) b (λ z. ap (weighed_by (checked_on b t f)) (rows_are z))
-                ∙ ap (λ (k : ℕ). unless_drawn k (weighed_by (checked_on b t f) w) b) number_is;
-            total = updates.total
-                ∙ unless-same n (unless_drawn (plan_after (checked_on b t f) (weighed r)).fault (total_value (money_of (checked_on b t f).portfolio)) zero64) (unless_drawn (plan_on b t f w).fault (total_value (money_of (checked_on b t f).portfolio)) zero64) zero64
-                (λ z. ap (λ (p : Plan). unless_drawn p.fault (total_value (money_of (checked_on b t f).portfolio)) zero64) (plan-is z))
-                ∙ ap (λ (k : ℕ). unless_drawn k (unless_drawn (plan_on b t f w).fault (total_value (money_of (checked_on b t f).portfolio)) zero64) zero64) number_is;
-            sent = sym is-sent ∙ sent-by ∙ ap (λ (k : ℕ). unless_drawn k (length (plan_on b t f w).orders) 0) number_is;
-            fault = updates.fault
-                ∙ unless-same n (plan_after (checked_on b t f) (weighed r)).fault (plan_on b t f w).fault n
-                (λ z. ap (λ (p : Plan). p.fault) (plan-is z))
-                ∙ ap (λ (k : ℕ). first_drawn k (plan_on b t f w).fault) number_is;
-            events = is-told ∙ events-by n refl sent-by
-                ∙ ap (λ (k : ℕ). unless_drawn k (over (events_of (checked_on b t f) (plan_on b t f w).orders) e) e) number_is;
-            log_is = is-after;
-          })
+    told-by : y.sent ≡ unless_drawn n (length (events_in (plan_on b t f w))) 0
+    told-by = sent-by ∙ ap (λ (k : ℕ). unless_drawn n k 0) (sym (length-events (checked_on b t f) orders))
+
+    events-front : take y.sent y.events ≡ unless_drawn n (events_in (plan_on b t f w)) []
+    events-front =
+        front-is n y.sent y.events (events_in (plan_on b t f w)) no_events
+        (λ z. updates.events
+        ∙ ap (λ (k : ℕ). unless_drawn k (over (events_in (plan_after (checked_on b t f) (weighed r))) no_events) no_events) z
+        ∙ ap (λ (p : Plan). over (events_in p) no_events) (plan-is z)) told-by
+
+    pub events-fit : (y.sent ≤ 256) × (0 + length (take y.sent y.events) ≤ length e)
+    events-fit = (
+      count-most n y.sent 256 (events_in (plan_on b t f w)) (λ z. (few z).0) told-by,
+      fits-first n e (take y.sent y.events) (events_in (plan_on b t f w)) events-front (λ z. (few z).1),
+    )
+
+    pub update-answers : (told : List OrderEvent) (after : List Trade) → told ≡ stored e 0 (take y.sent y.events) → after ≡ stored log y.first (take y.count y.trades) →
+        AnswersUpdate b t f w e log (answer_in y) told after
+    unfolding update_fault_of update_broker update_total update_sent update_events update_log
+    update-answers told after is-told is-after =
+        record {
+          broker = updates.broker
+              ∙ unless-same n (weighed_by (checked_on b t f) (weighed r)) (weighed_by (checked_on b t f) w) b (λ z. ap (weighed_by (checked_on b t f)) (rows_are z))
+              ∙ ap (λ (k : ℕ). unless_drawn k (weighed_by (checked_on b t f) w) b) number_is;
+          total = updates.total
+              ∙ unless-same n (unless_drawn (plan_after (checked_on b t f) (weighed r)).fault (total_value (money_of (checked_on b t f).portfolio)) zero64) (unless_drawn (plan_on b t f w).fault (total_value (money_of (checked_on b t f).portfolio)) zero64) zero64
+              (λ z. ap (λ (p : Plan). unless_drawn p.fault (total_value (money_of (checked_on b t f).portfolio)) zero64) (plan-is z))
+              ∙ ap (λ (k : ℕ). unless_drawn k (unless_drawn (plan_on b t f w).fault (total_value (money_of (checked_on b t f).portfolio)) zero64) zero64) number_is;
+          sent = sent-by ∙ ap (λ (k : ℕ). unless_drawn k (length orders) 0) number_is;
+          fault = updates.fault
+              ∙ unless-same n (plan_after (checked_on b t f) (weighed r)).fault (plan_on b t f w).fault n
+              (λ z. ap (λ (p : Plan). p.fault) (plan-is z))
+              ∙ ap (λ (k : ℕ). first_drawn k (plan_on b t f w).fault) number_is;
+          events = is-told ∙ over-by n e (take y.sent y.events) (events_in (plan_on b t f w)) events-front
+              ∙ ap (λ (k : ℕ). unless_drawn k (over (events_in (plan_on b t f w)) e) e) number_is;
+          log_is = is-after
+              ∙ stored-by n y.first b.exchange.counts.logged log (take y.count y.trades) (trades_in b t) trades-front updates.first
+              ∙ ap (λ (k : ℕ). unless_drawn k (log_with b t log) log) number_is;
+        }

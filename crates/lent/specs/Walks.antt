@@ -1,15 +1,14 @@
 -- The walk alone, which writes its orders to a lent list and answers how many: document 01, section 5. Definitions only.
-use Rattle.std.specs.Prelude.{ℕ, ◌≡◌, List, ◌++◌, length}
+use Rattle.std.specs.Prelude.{ℕ, List, ◌++◌, length}
 use Rattle.lists.specs.Lists.{over}
 use Rattle.market.specs.Faults.{drawn, unless_drawn, first_drawn}
-use Rattle.market.specs.Weights.{weight_rows, weighed}
+use Rattle.market.specs.Weights.{weight_rows}
 use Rattle.market.specs.declared.order.Order.{Order}
 use Rattle.market.specs.declared.weight.Weight.{Weight}
 use Rattle.rules.specs.Weights.{Plan, plan_of}
 use Rattle.portfolio.specs.State.{money_of}
 use Rattle.broker.specs.Lender.{lender_tests}
 use Rattle.broker.specs.declared.state.UistBroker.{UistBroker}
-use Rattle.market.specs.declared.weight.Weights.{Weights}
 
 -- 16, 15, then the rows of weights; then the plan's own number
 unfoldable pub walk_for : UistBroker → List Weight → List Order → ℕ
@@ -27,8 +26,3 @@ walk_count b w o = unless_drawn (walk_for b w o) (length (plan_for b w).orders) 
 -- the orders stand in the first places of the lent list, its old entries past them
 unfoldable pub walk_orders : UistBroker → List Weight → List Order → List Order
 walk_orders b w o = unless_drawn (walk_for b w o) (over (plan_for b w).orders o) o
-
--- what is read of rows of weights: the number that they draw and, where they draw none, all of them
-pub record ReadsWeights (l : List Weight) (r : Weights) : Type 0 where
-  pub fault : r.fault ≡ drawn (weight_rows 0 l)
-  pub rows : r.fault ≡ 0 → weighed r ≡ l

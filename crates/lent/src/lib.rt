@@ -2,10 +2,5 @@
 // exchange's ticks and the broker's calls run on both.
 #![tactic(auto)]
 
-mod folds;
-mod log;
-mod store;
-pub mod tables;
 pub mod uist;
 pub mod uist_v1;
-mod weights;

@@ -2,7 +2,9 @@
 use Prim.Native.Nat.{ℕ}
 use mathlib.Core.Path.{◌≡◌, refl, ap, sym, ◌∙◌}
 use mathlib.Core.List.{List, [], ◌∷◌, ◌++◌, append_assoc}
-use mathlib.Core.Option.{Option, none, some, some-injective, none-ne-some}
+use Rattle.std.specs.declared.option.Option.{Option}
+use Rattle.std.specs.declared.option.Option.TheVariants.{None, Some}
+use Rattle.std.proofs.lemmas.Option.{same_Some, none-some}
 use lib.IntN.{ℤ}
 use Rattle.words.specs.Words.{lead}
 use Rattle.numerals.specs.Numerals.{digits, date_text, hex16, decimal_in, date_in, bits_in}
@@ -45,30 +47,30 @@ module _ (l : Line) where
   behind-bid : behind (behind (behind all)) ≡ asks
   behind-bid = ap behind behind-date ∙ cut-behind 44 (hex16 l.bid) asks (hex-lacks-comma l.bid)
 
-  symbol-read : decimal_in (before all) ≡ some l.symbol
+  symbol-read : decimal_in (before all) ≡ Some l.symbol
   symbol-read = ap decimal_in (cut-before 44 (digits l.symbol) dates (digits-lack-comma l.symbol)) ∙ decimal-is l.symbol
 
   module _ (h : Said l) where
-    date-read : date_in (before (behind all)) ≡ some l.date
+    date-read : date_in (before (behind all)) ≡ Some l.date
     date-read =
         ap (λ (s : List ℕ). date_in (before s)) behind-symbol
         ∙ ap date_in (cut-before 44 (date_text l.date) bids (date-lacks-comma l.date))
         ∙ date-is l.date h.date
 
-    bid-read : bits_in (before (behind (behind all))) ≡ some l.bid
+    bid-read : bits_in (before (behind (behind all))) ≡ Some l.bid
     bid-read =
         ap (λ (s : List ℕ). bits_in (before s)) behind-date
         ∙ ap bits_in (cut-before 44 (hex16 l.bid) asks (hex-lacks-comma l.bid))
         ∙ bits_are l.bid h.bid
 
-    ask-read : bits_in (behind (behind (behind all))) ≡ some l.ask
+    ask-read : bits_in (behind (behind (behind all))) ≡ Some l.ask
     ask-read = ap bits_in behind-bid ∙ bits_are l.ask h.ask
 
-    fields_read : line_in all ≡ some l
+    fields_read : line_in all ≡ Some l
     unfolding line_in
     fields_read = rw (symbol-read, date-read, bid-read, ask-read)
 
-    pub line_read : line_in (line_text l) ≡ some l
+    pub line_read : line_in (line_text l) ≡ Some l
     line_read = ap line_in (in-fields l) ∙ fields_read
 
   -- a line's text holds no newline
@@ -80,38 +82,38 @@ module _ (l : Line) where
 
 -- ---- what is read is what would be written
 
-fields-said : (n : Option ℕ) (d : Option ℤ) (b a : Option ℕ) (l : Line) → line_with n d b a ≡ some l →
-    (n ≡ some l.symbol) × (d ≡ some l.date) × (b ≡ some l.bid) × (a ≡ some l.ask)
-fields-said none d b a l e = absurd (none-ne-some l e)
-fields-said (some n) none b a l e = absurd (none-ne-some l e)
-fields-said (some n) (some d) none a l e = absurd (none-ne-some l e)
-fields-said (some n) (some d) (some b) none l e = absurd (none-ne-some l e)
-fields-said (some n) (some d) (some b) (some a) l e =
-    let p = some-injective _ l e in (
-      ap (λ (k : Line). some k.symbol) p,
-      ap (λ (k : Line). some k.date) p,
-      ap (λ (k : Line). some k.bid) p,
-      ap (λ (k : Line). some k.ask) p,
+fields-said : (n : Option ℕ) (d : Option ℤ) (b a : Option ℕ) (l : Line) → line_with n d b a ≡ Some l →
+    (n ≡ Some l.symbol) × (d ≡ Some l.date) × (b ≡ Some l.bid) × (a ≡ Some l.ask)
+fields-said None d b a l e = absurd (none-some l e)
+fields-said (Some n) None b a l e = absurd (none-some l e)
+fields-said (Some n) (Some d) None a l e = absurd (none-some l e)
+fields-said (Some n) (Some d) (Some b) None l e = absurd (none-some l e)
+fields-said (Some n) (Some d) (Some b) (Some a) l e =
+    let p = same_Some _ l e in (
+      ap (λ (k : Line). Some k.symbol) p,
+      ap (λ (k : Line). Some k.date) p,
+      ap (λ (k : Line). Some k.bid) p,
+      ap (λ (k : Line). Some k.ask) p,
     )
 
 -- nothing is no date and no bits, so a comma stands before each
-no-date : (s : List ℕ) (z : ℤ) → date_in (before s) ≡ some z → s ≡ [] → ⊥
+no-date : (s : List ℕ) (z : ℤ) → date_in (before s) ≡ Some z → s ≡ [] → ⊥
 unfolding lead date_in
-no-date s z e n = none-ne-some z (sym (ap (λ (t : List ℕ). date_in (before t)) n) ∙ e)
+no-date s z e n = none-some z (sym (ap (λ (t : List ℕ). date_in (before t)) n) ∙ e)
 
-no_bits : (s : List ℕ) (m : ℕ) → bits_in (before s) ≡ some m → s ≡ [] → ⊥
+no_bits : (s : List ℕ) (m : ℕ) → bits_in (before s) ≡ Some m → s ≡ [] → ⊥
 unfolding lead bits_in
-no_bits s m e n = none-ne-some m (sym (ap (λ (t : List ℕ). bits_in (before t)) n) ∙ e)
+no_bits s m e n = none-some m (sym (ap (λ (t : List ℕ). bits_in (before t)) n) ∙ e)
 
-none-bits : (s : List ℕ) (m : ℕ) → bits_in s ≡ some m → s ≡ [] → ⊥
+none-bits : (s : List ℕ) (m : ℕ) → bits_in s ≡ Some m → s ≡ [] → ⊥
 unfolding bits_in
-none-bits s m e n = none-ne-some m (sym (ap bits_in n) ∙ e)
+none-bits s m e n = none-some m (sym (ap bits_in n) ∙ e)
 
-module _ (s : List ℕ) (l : Line) (e : line_in s ≡ some l) where
-  said : (decimal_in (before s) ≡ some l.symbol)
-      × (date_in (before (behind s)) ≡ some l.date)
-      × (bits_in (before (behind (behind s))) ≡ some l.bid)
-      × (bits_in (behind (behind (behind s))) ≡ some l.ask)
+module _ (s : List ℕ) (l : Line) (e : line_in s ≡ Some l) where
+  said : (decimal_in (before s) ≡ Some l.symbol)
+      × (date_in (before (behind s)) ≡ Some l.date)
+      × (bits_in (before (behind (behind s))) ≡ Some l.bid)
+      × (bits_in (behind (behind (behind s))) ≡ Some l.ask)
   unfolding line_in
   said = fields-said _ _ _ _ l e
 

@@ -3,7 +3,7 @@ use Prim.Native.Nat.{ℕ, suc, ◌+◌, ◌-◌, ◌≤◌, ◌<◌}
 use mathlib.Core.Bool.{true}
 use mathlib.Core.Path.{◌≡◌, refl, ap, sym, ◌∙◌}
 use mathlib.Core.List.{List, [], ◌∷◌}
-use mathlib.Core.Option.{none}
+use Rattle.std.specs.declared.option.Option.TheVariants.{None}
 use native.Mathlib.Omega.{arith}
 use lib.ListN.{length, take, drop, length-drop, drop_of_length-le}
 use lib.Seq.{drop-cons, drop-drop, take_all}
@@ -33,18 +33,18 @@ line_first l n e h =
     ∙ more_parts (take n l) _ _ (split 10 rest) (split-first 10 rest)
 
 -- else its newline is missing
-missing : (l : List ℕ) → 0 < length l → unfinished l ≡ none ∷ []
+missing : (l : List ℕ) → 0 < length l → unfinished l ≡ None ∷ []
 missing [] h = absurd (omega arith)
 missing (b ∷ l) h = refl
 
-line-missing : (l : List ℕ) (n : ℕ) → n ≡ lead (is_byte 10 true) l → length l ≤ n → 0 < length l → lines_of l ≡ none ∷ []
+line-missing : (l : List ℕ) (n : ℕ) → n ≡ lead (is_byte 10 true) l → length l ≤ n → 0 < length l → lines_of l ≡ None ∷ []
 unfolding lines_of
-line-missing l n e h some =
+line-missing l n e h Some =
     ap lines_in (split-first 10 l)
     ∙ ap (λ (k : ℕ). lines_in (take k l ∷ after 10 (drop k l))) (sym e)
     ∙ ap (λ (m : List ℕ). lines_in (m ∷ after 10 (drop n l))) (take_all n l h)
     ∙ ap (λ (m : List ℕ). lines_in (l ∷ after 10 m)) (drop_of_length-le l h)
-    ∙ missing l some
+    ∙ missing l Some
 
 -- the same from a place on: `end` is the place of the next newline, or the input's end
 module _ (s : List ℕ) (at end : ℕ) (h : at < length s) (e : end ≡ place (is_byte 10 true) s at) where
@@ -63,5 +63,5 @@ module _ (s : List ℕ) (at end : ℕ) (h : at < length s) (e : end ≡ place (i
       ap (λ (n : ℕ). drop n s) q
       )
 
-  pub last_line : length s ≤ end → lines_of (drop at s) ≡ none ∷ []
+  pub last_line : length s ≤ end → lines_of (drop at s) ≡ None ∷ []
   last_line k = line-missing (drop at s) (end - at) ahead (simp length-drop (omega arith)) (simp length-drop (omega arith))

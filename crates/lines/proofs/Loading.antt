@@ -3,7 +3,9 @@ use Prim.Native.Nat.{ℕ, suc, ◌+◌, ◌≤◌, ◌<◌, min}
 use mathlib.Core.Bool.{Bool, true, false, ◌&&◌}
 use mathlib.Core.Path.{◌≡◌, refl, ap, sym, subst, ◌∙◌}
 use mathlib.Core.List.{List, [], ◌∷◌, ◌++◌, append_assoc, append-nil}
-use mathlib.Core.Option.{Option, none, some, some-injective, none-ne-some, some-ne-none}
+use Rattle.std.specs.declared.option.Option.{Option}
+use Rattle.std.specs.declared.option.Option.TheVariants.{None, Some}
+use Rattle.std.proofs.lemmas.Option.{same_Some, none-some}
 use native.Mathlib.Numerals.{add-one}
 use native.Mathlib.Omega.{arith}
 use borrow.Author.Tests.{lt-ltb, le-ltb, ltb-true, ltb-false}
@@ -49,8 +51,8 @@ module _ (least : ℕ) (l : Line) where
       ap (λ (n : ℕ). quote_of (record { symbol = n; date = l.date; bid = l.bid; ask = l.ask })) q
 
 pub line-numbered : (least : ℕ) (o : Option Line) → All Numbered (line_tests least o)
-line-numbered least none = (tt, tt)
-line-numbered least (some l) = quote-laws.numbered least (quote_of l)
+line-numbered least None = (tt, tt)
+line-numbered least (Some l) = quote-laws.numbered least (quote_of l)
 
 -- what the lines draw, by the first of them
 pub lines-drew : (least : ℕ) (o : Option Line) (ls : List (Option Line)) →
@@ -58,7 +60,7 @@ pub lines-drew : (least : ℕ) (o : Option Line) (ls : List (Option Line)) →
 lines-drew least o ls = drawn-append (line_tests least o) (rows_tests line_tests line_symbol (line_symbol o + 1) ls) (line-numbered least o)
 
 -- a line that is none draws 19
-pub malformed-draws : (least : ℕ) → drawn (line_tests least none) ≡ 19
+pub malformed-draws : (least : ℕ) → drawn (line_tests least None) ≡ 19
 unfolding drawn
 malformed-draws least = refl
 
@@ -120,14 +122,14 @@ module _ {s : List ℕ} {rows : List Quote} {n least at : ℕ} (v : ReadTo s row
     stops f e d = e ∙ unless-some _ _ _ (λ z. d (e ∙ z)) ∙ drew-first
 
   -- a line that is none, or whose newline is missing
-  stops-none : (next : ℕ) → lines_of (drop at s) ≡ none ∷ lines_of (drop next s) → 19 ≡ lines_fault s
-  stops-none next e = stops none next e 19 (sym (malformed-draws least)) (λ z. omega arith)
+  stops-none : (next : ℕ) → lines_of (drop at s) ≡ None ∷ lines_of (drop next s) → 19 ≡ lines_fault s
+  stops-none next e = stops None next e 19 (sym (malformed-draws least)) (λ z. omega arith)
 
-  pub stops-missing : lines_of (drop at s) ≡ none ∷ [] → 19 ≡ lines_fault s
-  stops-missing e = stops-none (length s) (e ∙ ap (λ (ls : List (Option Line)). none ∷ ls) (sym (ap lines_of (drop-length s) ∙ no_lines)))
+  pub stops-missing : lines_of (drop at s) ≡ None ∷ [] → 19 ≡ lines_fault s
+  stops-missing e = stops-none (length s) (e ∙ ap (λ (ls : List (Option Line)). None ∷ ls) (sym (ap lines_of (drop-length s) ∙ no_lines)))
 
   -- a line that draws nothing: its row stands behind the others
-  module _ (l : Line) (next : ℕ) (first : lines_of (drop at s) ≡ some l ∷ lines_of (drop next s)) where
+  module _ (l : Line) (next : ℕ) (first : lines_of (drop at s) ≡ Some l ∷ lines_of (drop next s)) where
     module _ (z : drawn (row_tests least (capped_quote l)) ≡ 0) where
       row-high : (capped_quote l).symbol < 256
       row-high = (row-ascends least (capped_quote l) z).high
@@ -163,11 +165,11 @@ module _ {s : List ℕ} {rows : List Quote} {n least at : ℕ} (v : ReadTo s row
             drew =
                 ap (λ (r : Quote). drawn (rows_tests line_tests line_symbol (r.symbol + 1) (lines_of (drop next s)))) same
                 ∙ unless-none _ _ _ (sym (capped-draws least l) ∙ z)
-                ∙ drew-first (some l) next first;
+                ∙ drew-first (Some l) next first;
           }
 
     stops-row : (f : ℕ) → f ≡ drawn (row_tests least (capped_quote l)) → (f ≡ 0 → ⊥) → f ≡ lines_fault s
-    stops-row f e d = stops (some l) next first f (e ∙ capped-draws least l) d
+    stops-row f e d = stops (Some l) next first f (e ∙ capped-draws least l) d
 
 -- ---- by what the reader of a line said
 
@@ -177,22 +179,22 @@ pub record GoesOn (s : List ℕ) (rows : List Quote) (n : ℕ) (q : Quote) (next
   pub high : q.symbol < 256
   pub on : ReadTo s (set rows n q) (n + 1) (q.symbol + 1) next
 
-said-none : (o : Option Line) → none ≡ capped_row o → o ≡ none
-said-none none e = refl
-said-none (some l) e = absurd (none-ne-some _ e)
+said-none : (o : Option Line) → None ≡ capped_row o → o ≡ None
+said-none None e = refl
+said-none (Some l) e = absurd (none-some _ e)
 
-said-some : (q : Quote) (o : Option Line) → some q ≡ capped_row o → (l : Line) × (o ≡ some l) × (q ≡ capped_quote l)
-said-some q none e = absurd (some-ne-none q e)
-said-some q (some l) e = (l, refl, some-injective q (capped_quote l) e)
+said-some : (q : Quote) (o : Option Line) → Some q ≡ capped_row o → (l : Line) × (o ≡ Some l) × (q ≡ capped_quote l)
+said-some q None e = absurd (none-some q (sym e))
+said-some q (Some l) e = (l, refl, same_Some q (capped_quote l) e)
 
 module _ {s : List ℕ} {rows : List Quote} {n least at : ℕ} (v : ReadTo s rows n least at) (o : Option Line) (next : ℕ) (first : lines_of (drop at s) ≡ o ∷ lines_of (drop next s)) where
   abbrev ahead : Option Line → List (Option Line)
   ahead p = p ∷ lines_of (drop next s)
 
-  pub nothing_said : none ≡ capped_row o → 19 ≡ lines_fault s
+  pub nothing_said : None ≡ capped_row o → 19 ≡ lines_fault s
   nothing_said e = stops-none v next (first ∙ ap ahead (said-none o e))
 
-  module _ (q : Quote) (e : some q ≡ capped_row o) where
+  module _ (q : Quote) (e : Some q ≡ capped_row o) where
     pub row-stops : (f : ℕ) → f ≡ drawn (row_tests least q) → (f ≡ 0 → ⊥) → f ≡ lines_fault s
     row-stops f is d =
         let l = said-some q o e in

@@ -1,11 +1,12 @@
 -- Bytes put behind others in a buffer. Assumes nothing.
 use Prim.Native.Nat.{ℕ, suc, ◌+◌, ◌≤◌, ◌<◌}
-use mathlib.Core.Bool.{Bool, true, false, cond}
 use mathlib.Core.Path.{◌≡◌, refl, ap, sym, subst, ◌∙◌}
 use mathlib.Core.List.{List, [], ◌∷◌, ◌++◌, append_assoc, append-nil}
 use native.Mathlib.Omega.{arith}
 use lib.ListN.{length, get_or, take, drop, set, length-append, length-drop, take-append-drop}
-use lib.Seq.{drop-cons, drop-drop, set_at, take_at, drop-append-add, append_snoc, paste, length_paste_head, length-take-le}
+use lib.Seq.{drop-cons, drop-drop, set_at, take_at, drop-append-add, append_snoc, take_all, paste, length_paste_head, length-take-le}
+use Rattle.std.proofs.lemmas.Slice.{put_mid-paste}
+use borrow.Rule.Slice.PartMut.{put_mid}
 use Rattle.lists.specs.Lists.{over, stored}
 use Rattle.numerals.specs.Numerals.{digits, Spells}
 use Rattle.numerals.specs.declared.spelled.Spelled.{Spelled}
@@ -34,6 +35,13 @@ module _ (d : List ℕ) (at : ℕ) (k : List ℕ) (n x : ℕ) (room : at + n < l
   pub field_put : Puts field at d (at + n + 1) (set (paste d at k n) (at + n) x)
   field_put = record { end = omega (arith, field-length); buffer = field_stored }
 
+-- the same of a part of the buffer, m bytes long, into which the field's first n bytes were copied
+pub copied-put : (d : List ℕ) (at : ℕ) (k : List ℕ) (n x m : ℕ) (l : List ℕ) → at + n < length d → n ≤ length k → l ≡ take n k → m ≡ n → Puts (take n k ++ (x ∷ [])) at d (at + n + 1) (set (put_mid at m d l) (at + n) x)
+copied-put d at k n x m l room long e f =
+    let size : length (take n k) ≡ n = length-take-le n k long in
+    rw (put_mid-paste at m d l (take n k) n e (sym f) (sym size))
+    (subst (λ (t : List ℕ). Puts (t ++ (x ∷ [])) at d (at + n + 1) (set (paste d at (take n k) n) (at + n) x)) (take_all n (take n k) (omega arith)) (field_put d at (take n k) n x room (omega arith)))
+
 -- nothing put
 pub none-put : (at : ℕ) (d : List ℕ) → Puts [] at d at d
 none-put at d =
@@ -47,13 +55,6 @@ none-put at d =
           ∙ take-append-drop at d
           );
     }
-
--- a text where there is one, else nothing
-pub absent-put : (p : Bool) (x : List ℕ) (at : ℕ) (d : List ℕ) → p ≡ false → Puts (cond p x []) at d at d
-absent-put p x at d e = rw e (none-put at d)
-
-pub present-put : (p : Bool) (x : List ℕ) (at : ℕ) (d : List ℕ) (n : ℕ) (e : List ℕ) → p ≡ true → Puts x at d n e → Puts (cond p x []) at d n e
-present-put p x at d n e h a = rw h a
 
 -- one text put behind another
 pub more-put : (x y : List ℕ) (at : ℕ) (d : List ℕ) (m : ℕ) (e : List ℕ) (n : ℕ) (f : List ℕ) → at ≤ length d → Puts x at d m e → Puts y m e n f → Puts (x ++ y) at d n f

@@ -1,35 +1,18 @@
 -- The text of a table by symbol, as it is put symbol by symbol. Assumes nothing.
 use Prim.Native.Nat.{ℕ, ◌+◌, ◌*◌, ◌≤◌, ◌<◌}
-use mathlib.Core.Bool.{Bool, true, false, cond}
-use mathlib.Core.Path.{◌≡◌, refl, ap, sym, subst, ◌∙◌}
+use mathlib.Core.Path.{◌≡◌, ap, sym, subst, ◌∙◌}
 use mathlib.Core.List.{List, [], ◌++◌}
-use mathlib.Core.Option.{none, some}
 use native.Mathlib.Omega.{arith}
-use borrow.Author.Tests.{lt-ltb, ltb-false}
+use borrow.Author.Tests.{ltb-false}
 use lib.ListN.{length, get_or, take}
 use lib.Seq.{take_all}
-use Rattle.lists.specs.Lists.{span, over, gather, given}
+use Rattle.lists.specs.Lists.{span, over, gather}
 use Rattle.lists.proofs.Keep.{gather-more}
 use Rattle.lists.proofs.Spans.{length-span, span-at}
-use Rattle.market.specs.Quotes.{no_quote}
 use Rattle.market.proofs.Faults.{unless-some, unless-none, first-none, none-drawn}
-use Rattle.market.specs.declared.quote.Quote.{Quote}
 use Rattle.market.specs.declared.table.Table.{Table}
-use Rattle.lines.specs.Lines.{line_text, line_for, newline}
 use Rattle.lines.specs.Writing.{line_at, table_text, table_fault, table_written, WritesTable, Puts}
 use Rattle.lines.proofs.Putting.{none-put, more-put, first-put, Room, room-start, room-more}
-
--- the line of a symbol's row, with its newline
-abbrev row_line : ℕ → Quote → List ℕ
-row_line s q = line_text (line_for s q) ++ newline
-
-row_by : (p : Bool) (s : ℕ) (q : Quote) → given (cond p (some q) none) [] (row_line s) ≡ cond p (row_line s q) []
-row_by true s q = refl
-row_by false s q = refl
-
--- it is there where the table has the row
-line-here : (t : Table) (i : ℕ) → i < 256 → line_at t i ≡ cond (get_or t.present i false) (row_line i (get_or t.rows i no_quote)) []
-line-here t i h = rw (lt-ltb i 256 h) (row_by (get_or t.present i false) i (get_or t.rows i no_quote))
 
 -- the text of the first i symbols
 abbrev text-to : Table → ℕ → List ℕ
@@ -58,15 +41,15 @@ module _ {t : Table} {d e : List ℕ} {at i : ℕ} (v : PutTo t d e at i) (long 
   pub put-within : i < 256 → at + 59 ≤ length e
   put-within h = omega (arith, v.room.most, v.room.long)
 
-  pub put_next : (n : ℕ) (f : List ℕ) → i < 256 → Puts (cond (get_or t.present i false) (row_line i (get_or t.rows i no_quote)) []) at e n f → n ≤ at + 59 → PutTo t d f n (i + 1)
+  pub put_next : (n : ℕ) (f : List ℕ) → i < 256 → Puts (line_at t i) at e n f → n ≤ at + 59 → PutTo t d f n (i + 1)
   put_next n f h p most =
-      let line = cond (get_or t.present i false) (row_line i (get_or t.rows i no_quote)) [] in
+      let line = line_at t i in
       let few : length line ≤ 59 = omega (arith, p.end) in
       let k : 59 * i + 59 ≡ 59 * (i + 1) = omega arith in
       record {
         within = omega arith;
         puts =
-            subst (λ (l : List ℕ). Puts l 0 d n f) (ap (λ (l : List ℕ). text-to t i ++ l) (sym (line-here t i h)) ∙ sym (text-more t i h))
+            subst (λ (l : List ℕ). Puts l 0 d n f) (sym (text-more t i h))
             (more-put (text-to t i) line 0 d at e n f (omega arith) v.puts p);
         room = subst (λ (m : ℕ). Room m 0 d n f) k (room-more (59 * i) 0 d at e line 59 n f v.room p few (omega arith));
       }

@@ -3,7 +3,8 @@ use Prim.Native.Nat.{ℕ, zero, suc, ◌+◌, ◌*◌, ◌^◌, ◌≤◌, ◌<�
 use mathlib.Core.Bool.{true, not}
 use mathlib.Core.Path.{◌≡◌, refl, ap, ap₂, sym, ◌∙◌}
 use mathlib.Core.List.{List, [], ◌∷◌, ◌++◌, append_assoc}
-use mathlib.Core.Option.{Option, none, some}
+use Rattle.std.specs.declared.option.Option.{Option}
+use Rattle.std.specs.declared.option.Option.TheVariants.{None, Some}
 use native.Mathlib.Omega.{arith}
 use borrow.Author.Tests.{ltb-false, le-ltb, not-false}
 use lib.Dec.{T, ltb}
@@ -40,14 +41,14 @@ lines_none : (least : ℕ) (o : Option Line) (ls : List (Option Line)) → drawn
 lines_none least o ls e = append-none (line_tests least o) (rows_tests line_tests line_symbol (line_symbol o + 1) ls) (line-numbered least o) e
 
 -- so the first is of the form
-form-first : (least : ℕ) (ls : List (Option Line)) → drawn (rows_tests line_tests line_symbol least (none ∷ ls)) ≡ 0 → ⊥
-form-first least ls e = omega (arith, malformed-draws least, (lines_none least none ls e).0)
+form-first : (least : ℕ) (ls : List (Option Line)) → drawn (rows_tests line_tests line_symbol least (None ∷ ls)) ≡ 0 → ⊥
+form-first least ls e = omega (arith, malformed-draws least, (lines_none least None ls e).0)
 
 rows-sound : (least : ℕ) (ls : List (Option Line)) → drawn (rows_tests line_tests line_symbol least ls) ≡ 0 → drawn (table_tests least (rows_in ls)) ≡ 0
 rows-sound least [] e = e
-rows-sound least (none ∷ ls) e = absurd (form-first least ls e)
-rows-sound least (some l ∷ ls) e =
-    let d = lines_none least (some l) ls e in
+rows-sound least (None ∷ ls) e = absurd (form-first least ls e)
+rows-sound least (Some l ∷ ls) e =
+    let d = lines_none least (Some l) ls e in
     drawn-append (row_tests least (quote_of l)) (table_tests (l.symbol + 1) (rows_in ls)) (quote-laws.numbered least (quote_of l))
     ∙ sym (unless-none _ _ _ d.0)
     ∙ rows-sound (l.symbol + 1) ls d.1
@@ -94,12 +95,12 @@ sound-text room out s h =
 -- ---- each row that is read is of 64 bits
 
 abbrev SaidIn : Option Line → Type 0
-SaidIn none = Unit {0}
-SaidIn (some l) = Said l
+SaidIn None = Unit {0}
+SaidIn (Some l) = Said l
 
 said_in : (s : List ℕ) (o : Option Line) → line_in s ≡ o → SaidIn o
-said_in s none e = tt
-said_in s (some l) e = line-said s l e
+said_in s None e = tt
+said_in s (Some l) e = line-said s l e
 
 all_said : (ps : List (List ℕ)) → All SaidIn (lines_in ps)
 all_said [] = tt
@@ -109,8 +110,8 @@ all_said (s ∷ p ∷ ps) = (said_in s (line_in s) refl, all_said (p ∷ ps))
 
 all_held : (ls : List (Option Line)) → All SaidIn ls → Held (rows_in ls)
 all_held [] h = tt
-all_held (none ∷ ls) h = all_held ls h.1
-all_held (some l ∷ ls) h = (record { date = h.0.date; bid = of_bits-fits binary64 l.bid; ask = of_bits-fits binary64 l.ask }, all_held ls h.1)
+all_held (None ∷ ls) h = all_held ls h.1
+all_held (Some l ∷ ls) h = (record { date = h.0.date; bid = of_bits-fits binary64 l.bid; ask = of_bits-fits binary64 l.ask }, all_held ls h.1)
 
 pub rows-held : RowsHeld
 unfolding lines_of
@@ -140,9 +141,9 @@ line_same least l h e =
     ap₂ (λ (b a : ℕ). record { symbol = l.symbol; date = l.date; bid = b; ask = a }) (bits-same l.bid h.bid p.0) (bits-same l.ask h.ask p.1)
 
 one_line : (least : ℕ) (s : List ℕ) (o : Option Line) (ls : List (Option Line)) (r : List ℕ) → line_in s ≡ o → drawn (rows_tests line_tests line_symbol least (o ∷ ls)) ≡ 0 → ((m : ℕ) → drawn (rows_tests line_tests line_symbol m ls) ≡ 0 → text_of (rows_in ls) ≡ r) → text_of (rows_in (o ∷ ls)) ≡ s ++ 10 ∷ r
-one_line least s none ls r i e f = absurd (form-first least ls e)
-one_line least s (some l) ls r i e f =
-    let d = lines_none least (some l) ls e in
+one_line least s None ls r i e f = absurd (form-first least ls e)
+one_line least s (Some l) ls r i e f =
+    let d = lines_none least (Some l) ls e in
     ap (λ (k : List ℕ). k ++ newline ++ text_of (rows_in ls)) (ap line_text (line_same least l (line-said s l i) d.0) ∙ sym (line-is s l i))
     ∙ append_assoc s newline (text_of (rows_in ls))
     ∙ ap (λ (k : List ℕ). s ++ 10 ∷ k) (f (l.symbol + 1) d.1)
@@ -208,7 +209,7 @@ row_same q h =
 -- the lines of a table
 abbrev lines_for : List Quote → List (Option Line)
 lines_for [] = []
-lines_for (q ∷ t) = some (line_for q.symbol q) ∷ lines_for t
+lines_for (q ∷ t) = Some (line_for q.symbol q) ∷ lines_for t
 
 lines-read : (t : List Quote) → Held t → lines_of (text_of t) ≡ lines_for t
 lines-read [] h = no_lines

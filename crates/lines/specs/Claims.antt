@@ -1,6 +1,6 @@
 -- What is proved of quote lines beside the contracts: which texts are lines, that a table's text is read back, that it is the only one, and how long it is. Definitions only.
 use Rattle.std.specs.Prelude.{ℕ, ◌^◌, ◌≤◌, ◌<◌, min, List, ◌≡◌, T, length}
-use Rattle.std.proofs.Math.Option.{some}
+use Rattle.std.specs.Prelude.{Some}
 use Rattle.std.specs.Float.{binary64}
 use Rattle.std.specs.Float.Ieee.{fits}
 use Rattle.std.specs.Int.{w64}
@@ -23,7 +23,7 @@ pub record Said (l : Line) : Type 0 where
 
 -- a text is read as a line exactly where it is that line's text
 abbrev pub LineForm : Type 0
-LineForm = (s : List ℕ) (l : Line) → (line_in s ≡ some l → Said l × (s ≡ line_text l)) × (Said l → s ≡ line_text l → line_in s ≡ some l)
+LineForm = (s : List ℕ) (l : Line) → (line_in s ≡ Some l → Said l × (s ≡ line_text l)) × (Said l → s ≡ line_text l → line_in s ≡ Some l)
 
 -- ---- a table
 

@@ -1,6 +1,6 @@
 -- A quote line: document 02, request 2. Its text, and what is read of a text. Definitions only.
 use Rattle.std.specs.Prelude.{ℕ, suc, min, true, List, [], ◌∷◌, ◌++◌, ℤ, take, drop}
-use Rattle.std.proofs.Math.Option.{Option, none, some}
+use Rattle.std.specs.Prelude.{Option, None, Some}
 use Rattle.std.specs.Float.{binary64}
 use Rattle.std.specs.Float.Ieee.{of_bits, to_bits}
 use Rattle.lists.specs.Lists.{gather, given}
@@ -52,7 +52,7 @@ behind s = drop (suc (lead (is_byte 44 true) s)) s
 -- a line, where each of its fields says something
 abbrev pub line_with : Option ℕ → Option ℤ → Option ℕ → Option ℕ → Option Line
 line_with symbol date bid ask =
-    given symbol none (λ n. given date none (λ d. given bid none (λ b. given ask none (λ a. some (record { symbol = n; date = d; bid = b; ask = a })))))
+    given symbol None (λ n. given date None (λ d. given bid None (λ b. given ask None (λ a. Some (record { symbol = n; date = d; bid = b; ask = a })))))
 
 -- the line that a text is: a symbol, a date and a bid that commas end, and an ask
 unfoldable pub line_in : List ℕ → Option Line

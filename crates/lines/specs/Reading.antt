@@ -1,6 +1,6 @@
 -- The lines of an input, the numbers that they draw, and the rows that are read: document 02, request 2. Definitions only.
 use Rattle.std.specs.Prelude.{ℕ, min, true, List, [], ◌∷◌, ltb, ℤ, Float, length}
-use Rattle.std.proofs.Math.Option.{Option, none, some}
+use Rattle.std.specs.Prelude.{Option, None, Some}
 use Rattle.lists.specs.Lists.{gather, given}
 use Rattle.market.specs.Faults.{Test, ◌draws◌, drawn, unless_drawn}
 use Rattle.market.specs.Quotes.{row_tests}
@@ -9,8 +9,6 @@ use Rattle.market.specs.Rows.{rows_tests}
 use Rattle.market.specs.declared.quote.Quote.{Quote}
 use Rattle.words.specs.Words.{split}
 use Rattle.lines.specs.Lines.{Line, line_in, quote_of, capped_quote}
-use Rattle.lines.specs.declared.line.LineRead.{LineRead}
-use Rattle.lines.specs.declared.line.LineRead.TheVariants.{Of, Malformed}
 pub use Rattle.market.specs.declared.table.QuoteRows.{QuoteRows}
 
 -- ---- the lines
@@ -18,7 +16,7 @@ pub use Rattle.market.specs.declared.table.QuoteRows.{QuoteRows}
 -- what stands behind the last newline is no line where it is empty, else one whose newline is missing
 abbrev pub unfinished : List ℕ → List (Option Line)
 unfinished [] = []
-unfinished (b ∷ s) = none ∷ []
+unfinished (b ∷ s) = None ∷ []
 
 -- the lines of the parts that newlines separate; `none` is a line not of the form
 abbrev pub lines_in : List (List ℕ) → List (Option Line)
@@ -34,13 +32,13 @@ lines_of s = lines_in (split 10 s)
 
 -- per line: 19 not of the form, then 1 symbol above 255, 2 bid or ask not finite or not above zero, 3 row not ascending
 abbrev pub line_tests : ℕ → Option Line → List Test
-line_tests least none = (true draws 19) ∷ []
-line_tests least (some l) = row_tests least (quote_of l)
+line_tests least None = (true draws 19) ∷ []
+line_tests least (Some l) = row_tests least (quote_of l)
 
 -- the symbol that the next line's must pass; behind a line not of the form no line is read
 abbrev pub line_symbol : Option Line → ℕ
-line_symbol none = 0
-line_symbol (some l) = l.symbol
+line_symbol None = 0
+line_symbol (Some l) = l.symbol
 
 -- 15 a lent table of fewer than 256 rows; 20 an input above 65,536 bytes; then the lines in order
 abbrev pub read_tests : ℕ → List ℕ → List Test
@@ -62,20 +60,15 @@ rows_read room s = unless_drawn (read_fault room s) (rows_in (lines_of s)) []
 
 -- ---- what the program's answers say
 
--- the row that was read, or none
-abbrev pub quote_in : LineRead → Option Quote
-quote_in (Of q) = some q
-quote_in Malformed = none
-
 -- the row of a line, as the program has it
 abbrev pub capped_row : Option Line → Option Quote
-capped_row none = none
-capped_row (some l) = some (capped_quote l)
+capped_row None = None
+capped_row (Some l) = Some (capped_quote l)
 
 -- a row, where each field says something
 abbrev pub quote_with : Option ℕ → Option ℤ → Option Float → Option Float → Option Quote
 quote_with symbol date bid ask =
-    given symbol none (λ n. given date none (λ d. given bid none (λ b. given ask none (λ a. some (record { symbol = min n 256; bid = b; ask = a; date = d })))))
+    given symbol None (λ n. given date None (λ d. given bid None (λ b. given ask None (λ a. Some (record { symbol = min n 256; bid = b; ask = a; date = d })))))
 
 -- what the lines alone come to, by the number that they draw
 abbrev pub lines_fault : List ℕ → ℕ

@@ -4,8 +4,8 @@ ghost use Rattle.market.specs.Quotes.{listing};
 ghost use Rattle.lines.specs.Reading.{lines_read, read_of};
 
 use crate::line;
-use crate::line::LineRead;
 use market::quote::Quote;
+use market::row::Row;
 use words::word;
 
 // A table that was read, declared by crate `market` and named here as well.
@@ -15,11 +15,10 @@ pub use market::table::QuoteRows;
 fn refused(fault: u32) -> QuoteRows
     ensures { result ≡ listing [] fault }
 {
-    let blank = Quote::blank();
     QuoteRows {
-        rows: [blank; 257],
+        rows: [Quote::blank(); 257],
         count: 0,
-        fault: fault,
+        fault,
     }
 }
 
@@ -27,8 +26,7 @@ fn refused(fault: u32) -> QuoteRows
 fn lines_read(input: &[u8]) -> QuoteRows
     ensures { result ≡ lines_read input.now }
 {
-    let blank = Quote::blank();
-    let mut rows = [blank; 257];
+    let mut rows = [Quote::blank(); 257];
     let mut n: usize = 0;
     let mut least: u32 = 0;
     let mut at: usize = 0;
@@ -37,7 +35,7 @@ fn lines_read(input: &[u8]) -> QuoteRows
         if end >= input.len() {
             return refused(19);
         }
-        let LineRead::Of(q) = line::line(&input[at..end]) else {
+        let Some(q) = line::line(&input[at..end]) else {
             return refused(19);
         };
         let fault = q.fault(least);
@@ -45,12 +43,12 @@ fn lines_read(input: &[u8]) -> QuoteRows
             return refused(fault);
         }
         rows[n] = q;
-        n = n + 1;
+        n += 1;
         least = q.symbol + 1;
         at = end + 1;
     }
     QuoteRows {
-        rows: rows,
+        rows,
         count: n,
         fault: 0,
     }

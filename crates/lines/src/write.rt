@@ -1,5 +1,6 @@
 // The text of a table, written to a lent buffer.
-ghost use Rattle.std.specs.Prelude.{◌≡◌, ◌≤◌, ◌<◌, ◌+◌, cond, [], ◌∷◌, ◌++◌, length, take};
+ghost use Rattle.std.specs.Prelude.{◌≡◌, ◌≤◌, ◌<◌, ◌+◌, [], ◌∷◌, ◌++◌, length, take};
+ghost use Rattle.lists.specs.Lists.{given};
 ghost use Rattle.lines.specs.Lines.{line_text, line_for, newline};
 ghost use Rattle.lines.specs.Writing.{table_text, table_fault, Puts, WritesTable};
 
@@ -22,11 +23,7 @@ fn put_field(out: &mut [u8], at: usize, field: Spelled, end: u8) -> usize
     ensures { Puts (take field.count field.bytes ++ (end ∷ [])) at out.old result out.new }
 {
     let n = field.count;
-    let mut i: usize = 0;
-    while i < n {
-        out[at + i] = field.bytes[i];
-        i = i + 1;
-    }
+    out[at..at + n].copy_from_slice(&field.bytes[..n]);
     out[at + n] = end;
     at + n + 1
 }
@@ -44,15 +41,15 @@ fn put_line(out: &mut [u8], at: usize, symbol: u64, q: Quote) -> usize
 }
 
 // The same where the symbol has a row; else nothing.
-fn put_row(out: &mut [u8], at: usize, present: bool, symbol: u64, q: Quote) -> usize
+fn put_row(out: &mut [u8], at: usize, symbol: u64, row: Option<Quote>) -> usize
     requires { (symbol < 256) × (at + 59 ≤ length out.old) }
-    ensures puts { Puts (cond present (line_text (line_for symbol q) ++ newline) []) at out.old result out.new }
+    ensures puts { Puts (given row [] (λ q. line_text (line_for symbol q) ++ newline)) at out.old result out.new }
     ensures upper_bound { result ≤ at + 59 }
 {
-    if present {
-        return put_line(out, at, symbol, q);
+    match row {
+        Some(q) => put_line(out, at, symbol, q),
+        None => at,
     }
-    at
 }
 
 // Puts the lines of the rows, by ascending symbol.
@@ -61,11 +58,8 @@ fn put_rows(t: Table, out: &mut [u8]) -> usize
     ensures { Puts (table_text t) 0 out.old result out.new }
 {
     let mut at: usize = 0;
-    let mut i: usize = 0;
-    while i < 256 {
-        let q = t.rows[i];
-        at = put_row(out, at, t.present[i], i as u64, q);
-        i = i + 1;
+    for (symbol, row) in t.rows.iter().enumerate() {
+        at = put_row(out, at, symbol as u64, *row);
     }
     at
 }
@@ -86,14 +80,8 @@ pub fn write(table: ReadTable, out: &mut [u8]) -> Written
 {
     let fault = write_fault(out.len(), table);
     if fault != 0 {
-        return Written {
-            bytes: 0,
-            fault: fault,
-        };
+        return Written { bytes: 0, fault };
     }
     let bytes = put_rows(table.table(), out);
-    Written {
-        bytes: bytes,
-        fault: 0,
-    }
+    Written { bytes, fault: 0 }
 }

@@ -3,9 +3,10 @@
 use Prim.Native.Nat.{ℕ, zero, suc, ◌+◌, ◌≤◌, ◌<◌}
 use mathlib.Core.Path.{◌≡◌, refl, ap, ap₂, subst}
 use mathlib.Core.List.{List, [], ◌∷◌, ◌++◌, map}
-use mathlib.Core.Option.{some}
+use Rattle.std.specs.declared.option.Option.TheVariants.{Some}
 use native.Mathlib.Omega.{arith}
-use lib.ListN.{length, get_elem?}
+use lib.ListN.{length}
+use Rattle.std.specs.Prelude.{slice_get}
 use Rattle.lists.specs.Lists.{each, gather}
 
 module _ {A B : Type 0} where
@@ -43,7 +44,7 @@ module _ {A : Type 0} where
   all_append P i j [] m h a b = subst (λ k. AllFrom P k m) (omega arith) b
   all_append P i j (e ∷ l) m h a b = (a.0, all_append P (suc i) j l m (omega arith) a.1 b)
 
-  pub all-at : (P : ℕ → A → Type 0) (i n k : ℕ) (l : List A) → i + n ≡ k → n < length l → AllFrom P i l → (e : A) × (get_elem? l n ≡ some e) × P k e
+  pub all-at : (P : ℕ → A → Type 0) (i n k : ℕ) (l : List A) → i + n ≡ k → n < length l → AllFrom P i l → (e : A) × (slice_get l n ≡ Some e) × P k e
   all-at P i n k [] h b a = absurd (omega arith)
   all-at P i zero k (e ∷ l) h b a = (e, refl, subst (λ j. P j e) (omega arith) a.0)
   all-at P i (suc n) k (e ∷ l) h b a = all-at P (suc i) n k l (omega arith) (omega arith) a.1

@@ -6,7 +6,7 @@ use mathlib.Core.List.{List, [], ◌∷◌, ◌++◌, append_assoc}
 use native.Mathlib.Numerals.{add-one}
 use native.Mathlib.Omega.{arith}
 use lib.ListN.{length, take, drop, set, get_or, length-append, length-drop}
-use lib.Seq.{drop-cons, set-append_seam, get_or-append-add, get_or-drop, drop-append-add, drop-drop, take_at, paste, take-append_seam}
+use lib.Seq.{drop-cons, take-suc, length-take-le, set-append_seam, get_or-append-add, get_or-drop, drop-append-add, drop-drop, take_at, paste, take-append_seam}
 use Rattle.lists.specs.Lists.{over, stored}
 
 module _ {A : Type 0} where
@@ -26,6 +26,14 @@ module _ {A : Type 0} where
   -- a store just past the list makes it longer by one
   pub over-more : (k l : List A) (n : ℕ) (x : A) → n ≡ length k → length k < length l → set (over k l) n x ≡ over (k ++ (x ∷ [])) l
   over-more k l n x e h = ap (λ (m : ℕ). set (over k l) m x) e ∙ rw (drop-cons l (length k) x, set-append_seam, length-append, append_assoc, add-one)
+
+  -- an element more of the list that is copied
+  pub over-next : (m l : List A) (i : ℕ) (x d : A) → i < length m → length m ≤ length l → x ≡ get_or m i d → set (over (take i m) l) i x ≡ over (take (i + 1) m) l
+  over-next m l i x d h k e =
+      let size : length (take i m) ≡ i = length-take-le i m (omega arith) in
+      over-more (take i m) l i x (sym size) (omega (arith, size))
+      ∙ ap (λ (z : A). over (take i m ++ (z ∷ [])) l) e
+      ∙ ap (λ (z : List A). over z l) (sym (take-suc m i d h) ∙ ap (λ (n : ℕ). take n m) (sym (add-one i)))
 
   -- an array with its own first places in them is as it was
   pub over-take : (n : ℕ) (l : List A) → over (take n l) l ≡ l

@@ -4,7 +4,8 @@ use Prim.Native.Nat.{ℕ, suc, ◌+◌, ◌-◌, ◌≤◌, ◌<◌}
 use mathlib.Core.Path.{◌≡◌}
 use mathlib.Core.Bool.{Bool, true, false, cond}
 use mathlib.Core.List.{List, [], ◌∷◌, ◌++◌, append-nil}
-use mathlib.Core.Option.{Option, none, some}
+use Rattle.std.specs.declared.option.Option.{Option}
+use Rattle.std.specs.declared.option.Option.TheVariants.{None, Some}
 use native.Mathlib.Numerals.{add-one}
 use native.Mathlib.Omega.{arith}
 use lib.ListN.{length, take, drop, get_or, length-take, drop_of_length-le}
@@ -12,13 +13,13 @@ use lib.Seq.{drop-cons, take-suc, take-take}
 use Rattle.lists.specs.Lists.{first_from, without}
 use Rattle.lists.proofs.Without.{without-append}
 
-within_by : (j i n : ℕ) (b : Bool) (o : Option ℕ) → (some i ≡ o → i < suc j + n) → some i ≡ cond b (some j) o → i < j + suc n
+within_by : (j i n : ℕ) (b : Bool) (o : Option ℕ) → (Some i ≡ o → i < suc j + n) → Some i ≡ cond b (Some j) o → i < j + suc n
 within_by j i n true o h e = let z : i ≡ j = cc in omega arith
 within_by j i n false o h e = omega (arith, h e)
 
 module _ {A : Type 0} where
   -- what is found is there
-  pub first-within : (p : A → Bool) (j i : ℕ) (l : List A) → some i ≡ first_from j p l → i < j + length l
+  pub first-within : (p : A → Bool) (j i : ℕ) (l : List A) → Some i ≡ first_from j p l → i < j + length l
   first-within p j i [] e = absurd (let z : ◌≡◌ {A = ℕ} 0 1 = cc in omega arith)
   first-within p j i (a ∷ l) e = within_by j i (length l) (p a) _ (first-within p (suc j) i l) e
 
@@ -32,10 +33,10 @@ module _ {A : Type 0} where
   first_next p n i l d h k f = rw (from_cons n i l d h k, f, add-one)
 
   pub first-here : (p : A → Bool) (n i : ℕ) (l : List A) (d : A) → i < n → i < length l → p (get_or l i d) ≡ true →
-      first_from i p (take (n - i) (drop i l)) ≡ some i
+      first_from i p (take (n - i) (drop i l)) ≡ Some i
   first-here p n i l d h k t = rw (from_cons n i l d h k, t)
 
-  pub first-end : (p : A → Bool) (n i : ℕ) (l : List A) → n ≤ i → first_from i p (take (n - i) (drop i l)) ≡ none
+  pub first-end : (p : A → Bool) (n i : ℕ) (l : List A) → n ≤ i → first_from i p (take (n - i) (drop i l)) ≡ None
   first-end p n i l h = let e : n - i ≡ 0 = omega arith in rw e
 
   -- one more element behind the one that is left out

@@ -1,7 +1,7 @@
 -- What the contracts are written with: lists, what may be missing, and an array with a list in its first places.
 -- Definitions only.
 use Rattle.std.specs.Prelude.{ℕ, zero, suc, ◌+◌, Bool, cond, List, [], ◌∷◌, ◌++◌, length, take, drop}
-use Rattle.std.proofs.Math.Option.{Option, none, some}
+use Rattle.std.specs.Prelude.{Option, None, Some}
 
 -- the array l with the list k in its first places; what lies past k is as it was
 abbrev pub over : {A : Type 0} → List A → List A → List A
@@ -33,8 +33,8 @@ each f i (a ∷ l) = f i a ∷ each f (suc i) l
 
 -- the place of the first element that passes the test, counted from i
 abbrev pub first_from : {A : Type 0} → ℕ → (A → Bool) → List A → Option ℕ
-first_from i p [] = none
-first_from i p (a ∷ l) = cond (p a) (some i) (first_from (suc i) p l)
+first_from i p [] = None
+first_from i p (a ∷ l) = cond (p a) (Some i) (first_from (suc i) p l)
 
 -- the list without the element at a place
 abbrev pub without : {A : Type 0} → List A → ℕ → List A
@@ -42,13 +42,13 @@ without l i = take i l ++ drop (suc i) l
 
 -- what may be missing: b where it is, f of it where it is there
 abbrev pub given : {A B : Type 0} → Option A → B → (A → B) → B
-given none b f = b
-given (some a) b f = f a
+given None b f = b
+given (Some a) b f = f a
 
 -- what may be missing, as a list of at most one
 abbrev pub holds : {A : Type 0} → Option A → List A
-holds none = []
-holds (some a) = a ∷ []
+holds None = []
+holds (Some a) = a ∷ []
 
 -- p of every element
 abbrev pub All : {A : Type 0} → (A → Type 0) → List A → Type 0

@@ -5,14 +5,10 @@ use mathlib.Core.Bool.{Bool, true, false}
 use mathlib.Core.List.{List, [], ◌∷◌, ◌++◌}
 use native.Mathlib.Omega.{arith}
 use Rattle.lists.specs.Lists.{All}
+pub use Rattle.market.specs.Faults.{Numbered}
 use Rattle.market.specs.Faults.{Test, ◌draws◌, drawn, unless_drawn, first_drawn}
 use Rattle.market.specs.Orders.{order_tests}
 use Rattle.market.specs.declared.order.Order.{Order}
-
--- the test draws no 0, which says that nothing was drawn
-abbrev pub Numbered : Test → Type 0
-Numbered (b draws zero) = ⊥
-Numbered (b draws (suc n)) = Unit {0}
 
 -- ---- an answer by the number n
 

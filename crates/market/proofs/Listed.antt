@@ -3,7 +3,8 @@ use Prim.Native.Nat.{ℕ, zero, suc, ◌+◌, ◌≤◌}
 use mathlib.Core.Path.{◌≡◌, refl, ap, sym, subst, ◌∙◌}
 use mathlib.Core.Bool.{Bool, true, false, cond}
 use mathlib.Core.List.{List, [], ◌∷◌, ◌++◌}
-use mathlib.Core.Option.{Option, some}
+use Rattle.std.specs.declared.option.Option.{Option}
+use Rattle.std.specs.declared.option.Option.TheVariants.{Some}
 use native.Mathlib.Omega.{arith}
 use lib.Dec.{eqb}
 use borrow.Author.Tests.{le-ltb, ne_eqb, eqb-true, eqb-false}
@@ -32,13 +33,13 @@ module _ {B : Type 0} (f : ℕ → Quote → List B) where
   past_first q l i zero h = refl
   past_first q l i (suc n) h =
       let other : eqb q.symbol i ≡ false = ne_eqb q.symbol i (λ e. omega arith) in
-      ap (λ (b : Bool). given (cond b (some q) (row_for l i)) [] (f i) ++ gather (at_symbol (q ∷ l)) (span (suc i) n)) other
+      ap (λ (b : Bool). given (cond b (Some q) (row_for l i)) [] (f i) ++ gather (at_symbol (q ∷ l)) (span (suc i) n)) other
       ∙ ap (λ (k : List B). at_symbol l i ++ k) (past_first q l (suc i) n (omega arith))
 
   -- the rows from a bound on, where `on` is that they are so from the next symbol on
   module _ (least n : ℕ) (on : (l : List Quote) → drawn (table_tests (suc least) l) ≡ 0 → gather (at_symbol l) (span (suc least) n) ≡ gather (λ q. f q.symbol q) l) where
     first_by : (q : Quote) (l : List Quote) → drawn (table_tests least (q ∷ l)) ≡ 0 → (b : Bool) → eqb q.symbol least ≡ b →
-        given (cond b (some q) (row_for l least)) [] (f least) ++ gather (at_symbol (q ∷ l)) (span (suc least) n) ≡ f q.symbol q ++ gather (λ q. f q.symbol q) l
+        given (cond b (Some q) (row_for l least)) [] (f least) ++ gather (at_symbol (q ∷ l)) (span (suc least) n) ≡ f q.symbol q ++ gather (λ q. f q.symbol q) l
     first_by q l e true same =
         let is = eqb-true q.symbol least same in
         let later = (rows_none least q l e).1 in

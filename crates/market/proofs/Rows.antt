@@ -5,20 +5,16 @@ use mathlib.Core.Bool.{Bool}
 use mathlib.Core.List.{List, [], ◌∷◌, ◌++◌, append_assoc, append-nil}
 use native.Mathlib.Omega.{arith}
 use native.Mathlib.Numerals.{add-one}
-use lib.ListN.{length, take, drop, get_or, length-take, drop_of_length-le}
-use lib.Seq.{drop-cons, get_or-take, take-suc, length-take-le}
+use lib.ListN.{length, take, drop, get_or, drop_of_length-le}
+use lib.Seq.{drop-cons, take-suc, length-take-le}
 use borrow.Author.Tests.{ltb-false}
 use Rattle.lists.specs.Lists.{All}
 use Rattle.market.specs.Faults.{Test, drawn, unless_drawn, first_drawn}
+pub use Rattle.market.specs.Rows.{Ascends, RowLaws}
 use Rattle.market.specs.Rows.{supplier_tests, rows_tests, good_rows}
 use Rattle.market.proofs.Faults.{Numbered, drawn-append, numbered-append, append-none, none-drawn, unless-some, unless-none}
 
 -- ---- one row
-
--- a row that drew nothing ascends, and its symbol is at most 255
-pub record Ascends (least symbol : ℕ) : Type 0 where
-  pub low : least ≤ symbol
-  pub high : symbol < 256
 
 pub tests-ascend : (least symbol : ℕ) (sound : Bool) → drawn (supplier_tests least symbol sound) ≡ 0 → Ascends least symbol
 tests-ascend least symbol sound e =
@@ -27,11 +23,6 @@ tests-ascend least symbol sound e =
     let c = none-drawn _ 2 _ b.1 in
     let x = ltb-false 255 symbol a.0 in
     record { low = ltb-false symbol least c.0; high = omega arith }
-
--- what the laws below ask of a row's tests: none draws 0, and a row that draws nothing ascends
-pub record RowLaws {A : Type 0} (tests : ℕ → A → List Test) (symbol_of : A → ℕ) : Type 0 where
-  pub numbered : (least : ℕ) (r : A) → All Numbered (tests least r)
-  pub ascends : (least : ℕ) (r : A) → drawn (tests least r) ≡ 0 → Ascends least (symbol_of r)
 
 -- tests that are the supplier's have them
 pub supplier-laws : {A : Type 0} (symbol_of : A → ℕ) (sound : A → Bool) → RowLaws (λ least r. supplier_tests least (symbol_of r) (sound r)) symbol_of
@@ -131,89 +122,87 @@ module _ {A : Type 0} (tests : ℕ → A → List Test) (symbol_of : A → ℕ) 
   pub most-good : (l : List A) → good 0 (take 257 l) ≡ good 0 l
   most-good l = good-most 0 l 256 (omega arith)
 
--- ---- a loop over the first n of 257 rows: the i rows so far are good, and the rest gives what the whole gives
+-- ---- a loop over rows: the i rows so far are good, and the rest gives what the whole gives
 
-pub record RowsAt {A : Type 0} (tests : ℕ → A → List Test) (symbol_of : A → ℕ) (rows : List A) (n least i : ℕ) : Type 0 where
-  pub long : length rows ≡ 257
-  pub within : i ≤ 257
-  pub read : take i rows ++ good_rows tests symbol_of least (drop i (take n rows)) ≡ good_rows tests symbol_of 0 (take n rows)
-  pub drew : drawn (rows_tests tests symbol_of least (drop i (take n rows))) ≡ drawn (rows_tests tests symbol_of 0 (take n rows))
+pub record RowsAt {A : Type 0} (tests : ℕ → A → List Test) (symbol_of : A → ℕ) (rows : List A) (least i : ℕ) : Type 0 where
+  pub within : i ≤ length rows
+  pub read : take i rows ++ good_rows tests symbol_of least (drop i rows) ≡ good_rows tests symbol_of 0 rows
+  pub drew : drawn (rows_tests tests symbol_of least (drop i rows)) ≡ drawn (rows_tests tests symbol_of 0 rows)
 
 -- where it is left: the i rows so far are the good ones, and `fault` is what the rows draw
-pub record RowsRead {A : Type 0} (tests : ℕ → A → List Test) (symbol_of : A → ℕ) (rows : List A) (n fault i : ℕ) : Type 0 where
-  pub good : take i rows ≡ good_rows tests symbol_of 0 (take n rows)
-  pub count : i ≡ length (good_rows tests symbol_of 0 (take n rows))
-  pub fault-is : fault ≡ drawn (rows_tests tests symbol_of 0 (take n rows))
+pub record Left {A : Type 0} (tests : ℕ → A → List Test) (symbol_of : A → ℕ) (rows : List A) (fault i : ℕ) : Type 0 where
+  pub good : take i rows ≡ good_rows tests symbol_of 0 rows
+  pub count : i ≡ length (good_rows tests symbol_of 0 rows)
+  pub fault-is : fault ≡ drawn (rows_tests tests symbol_of 0 rows)
 
-pub rows_start : {A : Type 0} (tests : ℕ → A → List Test) (symbol_of : A → ℕ) (rows : List A) (n : ℕ) → length rows ≡ 257 → RowsAt tests symbol_of rows n 0 0
-rows_start tests symbol_of rows n h = record { long = h; within = omega arith; read = refl; drew = refl }
+pub rows_start : {A : Type 0} (tests : ℕ → A → List Test) (symbol_of : A → ℕ) (rows : List A) → RowsAt tests symbol_of rows 0 0
+rows_start tests symbol_of rows = record { within = omega arith; read = refl; drew = refl }
 
-module _ {A : Type 0} {tests : ℕ → A → List Test} {symbol_of : A → ℕ} (laws : RowLaws tests symbol_of) {rows : List A} {n least i : ℕ} (v : RowsAt tests symbol_of rows n least i) where
-  abbrev all : List A
-  all = take n rows
-
+module _ {A : Type 0} {tests : ℕ → A → List Test} {symbol_of : A → ℕ} (laws : RowLaws tests symbol_of) {rows : List A} {least i : ℕ} (v : RowsAt tests symbol_of rows least i) where
   -- the rest has no good row, and draws `fault`
-  left_at : (fault : ℕ) → good_rows tests symbol_of least (drop i all) ≡ [] → drawn (rows_tests tests symbol_of least (drop i all)) ≡ fault → RowsRead tests symbol_of rows n fault i
+  left_at : (fault : ℕ) → good_rows tests symbol_of least (drop i rows) ≡ [] → drawn (rows_tests tests symbol_of least (drop i rows)) ≡ fault → Left tests symbol_of rows fault i
   left_at fault g d =
       let e = sym (append-nil (take i rows)) ∙ ap (λ (l : List A). take i rows ++ l) (sym g) ∙ v.read in
-      let size : length (take i rows) ≡ i = length-take-le i rows (omega (arith, v.long, v.within)) in
+      let size : length (take i rows) ≡ i = length-take-le i rows (omega (arith, v.within)) in
       record { good = e; count = sym size ∙ ap length e; fault-is = sym d ∙ v.drew }
 
   -- no row is left
-  ended : length all ≤ i → RowsRead tests symbol_of rows n 0 i
+  pub ended : length rows ≤ i → Left tests symbol_of rows 0 i
   ended h =
-      let e = drop_of_length-le all h in
+      let e = drop_of_length-le rows h in
       left_at 0
       (ap (good_rows tests symbol_of least) e ∙ none-good tests symbol_of laws least)
       (ap (λ (l : List A). drawn (rows_tests tests symbol_of least l)) e ∙ none-drew tests symbol_of laws least)
 
-  pub ends-first : n ≤ i → RowsRead tests symbol_of rows n 0 i
-  ends-first h = ended (omega (arith, length-take n rows))
-
-  pub ends_last : 257 ≤ i → RowsRead tests symbol_of rows n 0 i
-  ends_last h = ended (omega (arith, length-take n rows, v.long))
-
-  -- a row is left; d is what a read past the end of the array would give
-  module _ (d : A) (h : i < 257) (k : i < n) where
+  -- a row is left; d is what a read past the end would give
+  module _ (d : A) (h : i < length rows) where
     abbrev row : A
     row = get_or rows i d
 
     abbrev later : List A
-    later = drop (suc i) all
+    later = drop (suc i) rows
 
-    row_first : drop i all ≡ row ∷ later
-    row_first =
-        let m : i < length all = omega (arith, length-take n rows, v.long) in
-        drop-cons all i d m ∙ ap (λ (r : A). r ∷ later) (get_or-take n rows i d k)
+    row_first : drop i rows ≡ row ∷ later
+    row_first = drop-cons rows i d h
 
-    good_of : good_rows tests symbol_of least (drop i all) ≡ unless_drawn (drawn (tests least row)) (row ∷ good_rows tests symbol_of (symbol_of row + 1) later) []
+    good_of : good_rows tests symbol_of least (drop i rows) ≡ unless_drawn (drawn (tests least row)) (row ∷ good_rows tests symbol_of (symbol_of row + 1) later) []
     good_of = ap (good_rows tests symbol_of least) row_first ∙ rows-good tests symbol_of laws least row later
 
-    drawn-of : drawn (rows_tests tests symbol_of least (drop i all)) ≡ first_drawn (drawn (tests least row)) (drawn (rows_tests tests symbol_of (symbol_of row + 1) later))
+    drawn-of : drawn (rows_tests tests symbol_of least (drop i rows)) ≡ first_drawn (drawn (tests least row)) (drawn (rows_tests tests symbol_of (symbol_of row + 1) later))
     drawn-of = ap (λ (l : List A). drawn (rows_tests tests symbol_of least l)) row_first ∙ rows-drew tests symbol_of laws least row later
 
     -- the rows so far, with this one
-    pub taken_more : take (i + 1) rows ≡ take i rows ++ (row ∷ [])
-    taken_more = ap (λ (j : ℕ). take j rows) (add-one i) ∙ take-suc rows i d (omega (arith, v.long))
+    taken_more : take (i + 1) rows ≡ take i rows ++ (row ∷ [])
+    taken_more = ap (λ (j : ℕ). take j rows) (add-one i) ∙ take-suc rows i d h
 
-    pub goes_on : drawn (tests least row) ≡ 0 → RowsAt tests symbol_of rows n (symbol_of row + 1) (i + 1)
+    pub goes_on : drawn (tests least row) ≡ 0 → RowsAt tests symbol_of rows (symbol_of row + 1) (i + 1)
     goes_on z =
         let next = good_rows tests symbol_of (symbol_of row + 1) later in
         record {
-          long = v.long;
           within = omega arith;
           read =
-              ap (λ (l : List A). l ++ good_rows tests symbol_of (symbol_of row + 1) (drop (i + 1) all)) taken_more
-              ∙ ap (λ (j : ℕ). (take i rows ++ (row ∷ [])) ++ good_rows tests symbol_of (symbol_of row + 1) (drop j all)) (add-one i)
+              ap (λ (l : List A). l ++ good_rows tests symbol_of (symbol_of row + 1) (drop (i + 1) rows)) taken_more
+              ∙ ap (λ (j : ℕ). (take i rows ++ (row ∷ [])) ++ good_rows tests symbol_of (symbol_of row + 1) (drop j rows)) (add-one i)
               ∙ append_assoc (take i rows) (row ∷ []) next
               ∙ ap (λ (l : List A). take i rows ++ l) (unless-none _ (row ∷ next) [] z ∙ sym good_of)
               ∙ v.read;
           drew =
-              ap (λ (j : ℕ). drawn (rows_tests tests symbol_of (symbol_of row + 1) (drop j all))) (add-one i)
+              ap (λ (j : ℕ). drawn (rows_tests tests symbol_of (symbol_of row + 1) (drop j rows))) (add-one i)
               ∙ unless-none _ _ _ z
               ∙ sym drawn-of
               ∙ v.drew;
         }
 
-    pub stops : (drawn (tests least row) ≡ 0 → ⊥) → RowsRead tests symbol_of rows n (drawn (tests least row)) i
+    pub stops : (drawn (tests least row) ≡ 0 → ⊥) → Left tests symbol_of rows (drawn (tests least row)) i
     stops s = left_at (drawn (tests least row)) (good_of ∙ sym (unless-some _ _ [] s)) (drawn-of ∙ sym (unless-some _ _ _ s))
+
+below-by : {A : Type 0} (symbol_of : A → ℕ) (n : ℕ) (r : A) (l : List A) → (n ≡ 0 → symbol_of r < 256) → All (λ q. symbol_of q < 256) l → All (λ q. symbol_of q < 256) (unless_drawn n (r ∷ l) [])
+below-by symbol_of zero r l h a = (h refl, a)
+below-by symbol_of (suc n) r l h a = tt
+
+-- the good rows' symbols are at most 255
+pub good-below : {A : Type 0} (tests : ℕ → A → List Test) (symbol_of : A → ℕ) → RowLaws tests symbol_of → (least : ℕ) (l : List A) → All (λ r. symbol_of r < 256) (good_rows tests symbol_of least l)
+unfolding good_rows
+good-below tests symbol_of laws least [] = tt
+good-below tests symbol_of laws least (r ∷ l) =
+    below-by symbol_of (drawn (tests least r)) r _ (λ e. (laws.ascends least r e).high) (good-below tests symbol_of laws (symbol_of r + 1) l)

@@ -1,25 +1,24 @@
 -- Laws of the table by symbol: its number, its rows, its lengths, and that 257 rows are enough.
-use Prim.Native.Nat.{ℕ, zero, suc, ◌+◌, ◌<◌, ◌%◌}
+use Prim.Native.Nat.{ℕ, zero, suc, ◌+◌, ◌<◌}
 use mathlib.Core.Path.{◌≡◌, refl, ap, ap₂, sym, ◌∙◌}
 use mathlib.Core.Bool.{Bool, true, false, ◌&&◌, cond}
-use mathlib.Core.List.{List, [], ◌∷◌, ◌++◌, foldl, foldl-append}
-use mathlib.Core.Option.{Option, none, some}
+use mathlib.Core.List.{List, [], ◌∷◌, foldl}
+use Rattle.std.specs.declared.option.Option.{Option}
+use Rattle.std.specs.declared.option.Option.TheVariants.{None, Some}
 use native.Mathlib.Omega.{arith}
-use native.Mathlib.Nat.{mod-eq_of_lt}
-use lib.Dec.{ltb, eqb}
+use lib.Dec.{eqb}
 use lib.ListN.{length, take, get_or, replicate, length-set, length-replicate}
 use lib.Seq.{get_or-set_same, get_or-set_other}
-use borrow.Author.Tests.{lt-ltb, ltb-true, ne_eqb, eqb-true, eqb-false}
+use borrow.Author.Tests.{ne_eqb, eqb-true, eqb-false}
 use Rattle.lists.specs.Lists.{given, All}
 use Rattle.market.specs.Faults.{drawn}
-use Rattle.market.specs.Quotes.{blank_quote, no_quote, is_price, row_tests, table_tests, row_for, empty_table, put_row, faulted, table_of, row_at}
+use Rattle.market.specs.Quotes.{is_price, row_tests, table_tests, row_for, empty_table, put_row, faulted, table_of, row_at}
 use Rattle.market.specs.Rows.{good_rows}
-use Rattle.market.specs.Trades.{row_if}
 use Rattle.market.specs.declared.quote.Quote.{Quote}
 use Rattle.market.specs.declared.table.Table.{Table}
 use Rattle.market.proofs.Faults.{Numbered}
 use Rattle.market.proofs.Rows as Rows
-use Rattle.market.proofs.Rows.{Ascends, RowLaws, supplier-laws, rows-numbered, good-all, most-drew, most-good, RowsRead}
+use Rattle.market.proofs.Rows.{Ascends, RowLaws, supplier-laws, rows-numbered, good-all, most-drew, most-good}
 
 -- ---- rows of quotes
 
@@ -44,13 +43,16 @@ pub table-fault : (l : List Quote) → (table_of l).fault ≡ drawn (table_tests
 unfolding table_of
 table-fault l = refl
 
--- ---- the arrays' lengths
+-- ---- the array's length
+
+abbrev no_row : Option Quote
+no_row = None
 
 abbrev Long : Table → Type 0
-Long t = (length t.present ≡ 256) × (length t.rows ≡ 256)
+Long t = length t.rows ≡ 256
 
 put-long : (t : Table) (q : Quote) → Long t → Long (put_row t q)
-put-long t q s = (length-set t.present q.symbol true ∙ s.0, length-set t.rows q.symbol q ∙ s.1)
+put-long t q s = length-set t.rows q.symbol (Some q) ∙ s
 
 all-long : (t : Table) (l : List Quote) → Long t → Long (foldl put_row t l)
 all-long t [] s = s
@@ -58,15 +60,11 @@ all-long t (q ∷ l) s = all-long (put_row t q) l (put-long t q s)
 
 empty-long : Long empty_table
 unfolding empty_table
-empty-long = (length-replicate 256 false, length-replicate 256 blank_quote)
-
-pub table-present-length : (l : List Quote) → length (table_of l).present ≡ 256
-unfolding table_of
-table-present-length l = (all-long empty_table (good_rows row_tests (λ q. q.symbol) 0 l) empty-long).0
+empty-long = length-replicate 256 no_row
 
 pub table-rows-length : (l : List Quote) → length (table_of l).rows ≡ 256
 unfolding table_of
-table-rows-length l = (all-long empty_table (good_rows row_tests (λ q. q.symbol) 0 l) empty-long).1
+table-rows-length l = all-long empty_table (good_rows row_tests (λ q. q.symbol) 0 l) empty-long
 
 -- ---- at most 256 rows ascend, so no row after the 257th counts
 
@@ -77,21 +75,10 @@ table-most l =
     (most-good row_tests (λ q. q.symbol) quote-laws l)
     (most-drew row_tests (λ q. q.symbol) quote-laws l)
 
--- ---- the loop of `ReadTable::of`: the table so far is that of the rows so far
-
-pub put-more : (l m : List Quote) (q : Quote) (t : Table) → m ≡ l ++ (q ∷ []) → t ≡ foldl put_row empty_table l → put_row t q ≡ foldl put_row empty_table m
-put-more l m q t e p = ap (λ (u : Table). put_row u q) p ∙ sym (foldl-append put_row empty_table l (q ∷ [])) ∙ sym (ap (foldl put_row empty_table) e)
-
--- where the loop is left, it is the table of the rows
-pub table-read : (rows : List Quote) (n fault i : ℕ) (t : Table) → t ≡ foldl put_row empty_table (take i rows) → RowsRead row_tests (λ q. q.symbol) rows n fault i → faulted t fault ≡ table_of (take n rows)
-unfolding table_of
-table-read rows n fault i t e r =
-    ap₂ (λ (u : Table) (k : ℕ). faulted u k) (e ∙ ap (foldl put_row empty_table) r.good) r.fault-is
-
 -- ---- the row for a symbol
 
 -- rows that draw nothing have no symbol below the first's bound
-pub row_below : (least : ℕ) (l : List Quote) (n : ℕ) → drawn (table_tests least l) ≡ 0 → n < least → row_for l n ≡ none
+pub row_below : (least : ℕ) (l : List Quote) (n : ℕ) → drawn (table_tests least l) ≡ 0 → n < least → row_for l n ≡ None
 row_below least [] n e h = refl
 row_below least (q ∷ l) n e h =
     let d = rows_none least q l e in
@@ -101,31 +88,23 @@ row_below least (q ∷ l) n e h =
 
 module _ (t : Table) (q : Quote) (n : ℕ) where
   -- the row put in is its symbol's
-  put_same : Long t → q.symbol < 256 → q.symbol ≡ n → row_at (put_row t q) n ≡ some q
+  put_same : Long t → q.symbol < 256 → q.symbol ≡ n → row_at (put_row t q) n ≡ Some q
   put_same s h e =
-      let p : q.symbol < length t.present = omega (arith, s.0) in
-      let r : q.symbol < length t.rows = omega (arith, s.1) in
-      rw (
-        sym e,
-        lt-ltb q.symbol 256 h,
-        get_or-set_same t.present q.symbol true false p,
-        get_or-set_same t.rows q.symbol q no_quote r,
-      )
+      let r : q.symbol < length t.rows = omega (arith, s) in
+      rw (sym e, get_or-set_same t.rows q.symbol (Some q) None r)
 
   -- the other symbols keep theirs
   put_other : (q.symbol ≡ n → ⊥) → row_at (put_row t q) n ≡ row_at t n
-  put_other d =
-      let o : n ≡ q.symbol → ⊥ = λ x. d (sym x) in
-      rw (get_or-set_other t.present q.symbol n true false o, get_or-set_other t.rows q.symbol n q no_quote o)
+  put_other d = get_or-set_other t.rows q.symbol n (Some q) None (λ x. d (sym x))
 
   -- one row more
-  row_by : (l : List Quote) → Long t → q.symbol < 256 → drawn (table_tests (q.symbol + 1) l) ≡ 0 → (b : Bool) → eqb q.symbol n ≡ b → given (row_for l n) (row_at (put_row t q) n) some ≡ given (cond b (some q) (row_for l n)) (row_at t n) some
+  row_by : (l : List Quote) → Long t → q.symbol < 256 → drawn (table_tests (q.symbol + 1) l) ≡ 0 → (b : Bool) → eqb q.symbol n ≡ b → given (row_for l n) (row_at (put_row t q) n) Some ≡ given (cond b (Some q) (row_for l n)) (row_at t n) Some
   row_by l s h d true e =
       let same = eqb-true q.symbol n e in
       rw (row_below (q.symbol + 1) l n d (omega arith)) (put_same s h same)
-  row_by l s h d false e = ap (λ (o : Option Quote). given (row_for l n) o some) (put_other (eqb-false q.symbol n e))
+  row_by l s h d false e = ap (λ (o : Option Quote). given (row_for l n) o Some) (put_other (eqb-false q.symbol n e))
 
-all-rows : (least : ℕ) (t : Table) (l : List Quote) (n : ℕ) → Long t → drawn (table_tests least l) ≡ 0 → row_at (foldl put_row t l) n ≡ given (row_for l n) (row_at t n) some
+all-rows : (least : ℕ) (t : Table) (l : List Quote) (n : ℕ) → Long t → drawn (table_tests least l) ≡ 0 → row_at (foldl put_row t l) n ≡ given (row_for l n) (row_at t n) Some
 all-rows least t [] n s e = refl
 all-rows least t (q ∷ l) n s e =
     let d = rows_none least q l e in
@@ -133,23 +112,18 @@ all-rows least t (q ∷ l) n s e =
     all-rows (q.symbol + 1) (put_row t q) l n (put-long t q s) d.1 ∙ row_by t q n l s a.high d.1 (eqb q.symbol n) refl
 
 -- nothing is present in the empty table
-none-present : (k n : ℕ) → get_or (replicate k false) n false ≡ false
+none-present : (k n : ℕ) → ◌≡◌ {A = Option Quote} (get_or (replicate k None) n None) None
 none-present zero n = refl
 none-present (suc k) zero = refl
 none-present (suc k) (suc n) = none-present k n
 
-absent : (b p : Bool) (q : Quote) → p ≡ false → cond b (cond p (some q) none) none ≡ none
-absent true p q e = rw e
-absent false p q e = refl
-
-none-empty : (n : ℕ) → row_at empty_table n ≡ none
+none-empty : (n : ℕ) → row_at empty_table n ≡ None
 unfolding empty_table
-none-empty n =
-    absent (ltb n 256) (get_or empty_table.present n false) (get_or empty_table.rows n no_quote) (none-present 256 n)
+none-empty n = none-present 256 n
 
-given-none : (o : Option Quote) → given o none some ≡ o
-given-none none = refl
-given-none (some q) = refl
+given-none : (o : Option Quote) → given o None Some ≡ o
+given-none None = refl
+given-none (Some q) = refl
 
 -- a table whose rows drew nothing has the row for each symbol
 pub table-row : (l : List Quote) → drawn (table_tests 0 l) ≡ 0 → (n : ℕ) → row_at (table_of l) n ≡ row_for l n
@@ -157,17 +131,5 @@ unfolding table_of
 table-row l e n =
     ap (λ (k : List Quote). row_at (foldl put_row empty_table k) n) (good-all row_tests (λ q. q.symbol) quote-laws 0 l e)
     ∙ all-rows 0 empty_table l n empty-long e
-    ∙ ap (λ (o : Option Quote). given (row_for l n) o some) (none-empty n)
+    ∙ ap (λ (o : Option Quote). given (row_for l n) o Some) (none-empty n)
     ∙ given-none (row_for l n)
-
--- ---- the row as code reads it: `has_row` and the rows at the symbol's place modulo 256
-
-listed_by : (t : Table) (s : ℕ) (b : Bool) → ltb s 256 ≡ b →
-    row_if (cond b (get_or t.present (s % 256) false) false) (get_or t.rows (s % 256) no_quote)
-    ≡ cond b (cond (get_or t.present s false) (some (get_or t.rows s no_quote)) none) none
-listed_by t s true e = rw (mod-eq_of_lt (ltb-true s 256 e))
-listed_by t s false e = refl
-
--- it is the table's row for the symbol
-pub row_listed : (t : Table) (s : ℕ) → row_if (cond (ltb s 256) (get_or t.present (s % 256) false) false) (get_or t.rows (s % 256) no_quote) ≡ row_at t s
-row_listed t s = listed_by t s (ltb s 256) refl

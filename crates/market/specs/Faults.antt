@@ -20,3 +20,8 @@ unless_drawn (suc n) a b = b
 -- the first number where it is drawn, else the second
 abbrev pub first_drawn : ℕ → ℕ → ℕ
 first_drawn n m = unless_drawn n m n
+
+-- the test draws no 0, which says that nothing was drawn
+abbrev pub Numbered : Test → Type 0
+Numbered (b draws zero) = ⊥
+Numbered (b draws (suc n)) = Unit {0}

@@ -3,6 +3,7 @@ pub mod Faults
 pub mod Orders
 pub mod Rows
 pub mod Quotes
+pub mod Reading
 pub mod Trades
 pub mod VendorQuotes
 pub mod Weights

@@ -1,8 +1,9 @@
 -- Orders: document 01, section 2, and the sender's 1 and 2. Definitions only.
-use Rattle.std.specs.Prelude.{ℕ, Bool, true, false, not, ◌&&◌, ◌||◌, List, [], ◌∷◌, ltb, Float}
+use Rattle.std.specs.Prelude.{ℕ, Bool, true, false, not, ◌||◌, List, [], ◌∷◌, ltb, Float, None, Some}
 use Rattle.std.specs.Float.{binary64}
 use Rattle.std.specs.Float.Ieee.{of_bits}
 use Rattle.std.specs.Float.Ieee.Scale.{finite}
+use Rattle.lists.specs.Lists.{given}
 use Rattle.market.specs.Faults.{Test, ◌draws◌}
 use Rattle.market.specs.declared.order.OrderType.{OrderType}
 use Rattle.market.specs.declared.order.OrderType.TheVariants.{MarketSell, MarketBuy, LimitSell, LimitBuy, StopSell, StopBuy}
@@ -15,7 +16,7 @@ zero64 = of_bits binary64 0
 
 -- an order without a price
 abbrev pub market_order : OrderType → ℕ → Float → Order
-market_order k symbol shares = record { kind = k; priced = false; symbol = symbol; shares = shares; price = zero64 }
+market_order k symbol shares = record { kind = k; symbol = symbol; shares = shares; price = None }
 
 -- a row of a list that holds no order
 abbrev pub blank_order : Order
@@ -23,7 +24,7 @@ blank_order = market_order MarketSell 0 zero64
 
 -- an order with a price
 abbrev pub priced_order : OrderType → ℕ → Float → Float → Order
-priced_order k symbol shares price = record { kind = k; priced = true; symbol = symbol; shares = shares; price = price }
+priced_order k symbol shares price = record { kind = k; symbol = symbol; shares = shares; price = Some price }
 
 -- an order's event: the order with taken (0) or its number
 abbrev pub event_of : Order → ℕ → OrderEvent
@@ -51,4 +52,4 @@ is_market StopBuy = false
 abbrev pub order_tests : Order → List Test
 order_tests o =
     (ltb 255 o.symbol draws 1) ∷
-    ((not (finite o.shares) || o.priced && not (finite o.price)) draws 2) ∷ []
+    ((not (finite o.shares) || given o.price false (λ price. not (finite price))) draws 2) ∷ []

@@ -1,7 +1,7 @@
 -- Quotes and tables: document 01, section 2, and the supplier's 1, 2 and 3. Definitions only.
-use Rattle.std.specs.Prelude.{ℕ, Bool, true, false, ◌&&◌, cond, ltb, eqb, pos, Float, length, get_or, set, replicate}
+use Rattle.std.specs.Prelude.{ℕ, Bool, ◌&&◌, cond, eqb, pos, Float, length, get_or, set, replicate}
 use mathlib.Core.List.{List, [], ◌∷◌, foldl}
-use Rattle.std.proofs.Math.Option.{Option, none, some}
+use Rattle.std.specs.Prelude.{Option, None, Some}
 use Rattle.std.specs.Float.{nan}
 use Rattle.std.specs.Float.Ieee.{lt}
 use Rattle.std.specs.Float.Ieee.Scale.{finite}
@@ -34,8 +34,8 @@ table_tests least l = rows_tests row_tests (λ q. q.symbol) least l
 
 -- the row for a symbol
 abbrev pub row_for : List Quote → ℕ → Option Quote
-row_for [] n = none
-row_for (q ∷ l) n = cond (eqb q.symbol n) (some q) (row_for l n)
+row_for [] n = None
+row_for (q ∷ l) n = cond (eqb q.symbol n) (Some q) (row_for l n)
 
 -- rows in the first places of an array of 257, how many they are, and a number
 abbrev pub listing : List Quote → ℕ → QuoteRows
@@ -44,14 +44,14 @@ listing l fault = record { rows = over l (replicate 257 blank_quote); count = le
 -- ---- the table by symbol
 
 unfoldable pub empty_table : Table
-empty_table = record { present = replicate 256 false; rows = replicate 256 blank_quote; fault = 0 }
+empty_table = record { rows = replicate 256 None; fault = 0 }
 
 -- a row put at its symbol's place
 abbrev pub put_row : Table → Quote → Table
-put_row t q = record { present = set t.present q.symbol true; rows = set t.rows q.symbol q; fault = t.fault }
+put_row t q = record { rows = set t.rows q.symbol (Some q); fault = t.fault }
 
 abbrev pub faulted : Table → ℕ → Table
-faulted t n = record { present = t.present; rows = t.rows; fault = n }
+faulted t n = record { rows = t.rows; fault = n }
 
 -- the rows are put in up to the first that draws a number, which the table keeps
 unfoldable pub table_of : List Quote → Table
@@ -59,4 +59,4 @@ table_of l = faulted (foldl put_row empty_table (good_rows row_tests (λ q. q.sy
 
 -- the row that a table has for a symbol
 abbrev pub row_at : Table → ℕ → Option Quote
-row_at t n = cond (ltb n 256) (cond (get_or t.present n false) (some (get_or t.rows n no_quote)) none) none
+row_at t n = get_or t.rows n None

@@ -1,6 +1,7 @@
 -- Rows that ascend by symbol, of quotes or of weights: document 01, section 2, and the supplier's 1, 2 and 3. Definitions only.
-use Rattle.std.specs.Prelude.{ℕ, ◌+◌, Bool, not, List, [], ◌∷◌, ◌++◌, ltb}
-use Rattle.market.specs.Faults.{Test, ◌draws◌, drawn, unless_drawn}
+use Rattle.std.specs.Prelude.{ℕ, ◌≡◌, ◌+◌, ◌<◌, ◌≤◌, Bool, not, List, [], ◌∷◌, ◌++◌, ltb}
+use Rattle.lists.specs.Lists.{All}
+use Rattle.market.specs.Faults.{Test, ◌draws◌, drawn, unless_drawn, Numbered}
 
 -- per row: 1 symbol above 255; 2 values that are not as they must be; 3 row not ascending.
 -- `least` is the least symbol that ascends: 0 for the first row, then one more than the symbol of the row before
@@ -16,3 +17,13 @@ rows_tests tests symbol_of least (r ∷ l) = tests least r ++ rows_tests tests s
 unfoldable pub good_rows : {A : Type 0} → (ℕ → A → List Test) → (A → ℕ) → ℕ → List A → List A
 good_rows tests symbol_of least [] = []
 good_rows tests symbol_of least (r ∷ l) = unless_drawn (drawn (tests least r)) (r ∷ good_rows tests symbol_of (symbol_of r + 1) l) []
+
+-- a row that drew nothing ascends, and its symbol is at most 255
+pub record Ascends (least symbol : ℕ) : Type 0 where
+  pub low : least ≤ symbol
+  pub high : symbol < 256
+
+-- what reading rows asks of a row's tests: none draws 0, and a row that draws nothing ascends
+pub record RowLaws {A : Type 0} (tests : ℕ → A → List Test) (symbol_of : A → ℕ) : Type 0 where
+  pub numbered : (least : ℕ) (r : A) → All Numbered (tests least r)
+  pub ascends : (least : ℕ) (r : A) → drawn (tests least r) ≡ 0 → Ascends least (symbol_of r)

@@ -5,6 +5,7 @@
 pub mod fault;
 pub mod order;
 pub mod quote;
+pub mod row;
 pub mod table;
 pub mod trade;
 pub mod vendor_quote;

@@ -14,14 +14,12 @@ pub enum OrderType {
     StopBuy,
 }
 
-// The price counts only where `priced` says that there is one.
 #[derive(Clone, Copy)]
 pub struct Order {
     pub kind: OrderType,
-    pub priced: bool,
     pub symbol: u32,
     pub shares: f64,
-    pub price: f64,
+    pub price: Option<f64>,
 }
 
 // The order, with 0 where it was taken or the number that it drew.
@@ -36,11 +34,10 @@ impl Order {
         ensures { result ≡ market_order kind symbol shares }
     {
         Order {
-            kind: kind,
-            priced: false,
-            symbol: symbol,
-            shares: shares,
-            price: 0.0,
+            kind,
+            symbol,
+            shares,
+            price: None,
         }
     }
 
@@ -48,11 +45,10 @@ impl Order {
         ensures { result ≡ priced_order kind symbol shares price }
     {
         Order {
-            kind: kind,
-            priced: true,
-            symbol: symbol,
-            shares: shares,
-            price: price,
+            kind,
+            symbol,
+            shares,
+            price: Some(price),
         }
     }
 
@@ -102,29 +98,16 @@ impl Order {
     pub fn is_sell(self) -> bool
         ensures { result ≡ is_sell self.kind }
     {
-        let k = self.kind;
-        match k {
-            OrderType::MarketSell => true,
-            OrderType::MarketBuy => false,
-            OrderType::LimitSell => true,
-            OrderType::LimitBuy => false,
-            OrderType::StopSell => true,
-            OrderType::StopBuy => false,
-        }
+        matches!(
+            self.kind,
+            OrderType::MarketSell | OrderType::LimitSell | OrderType::StopSell
+        )
     }
 
     pub fn is_market(self) -> bool
         ensures { result ≡ is_market self.kind }
     {
-        let k = self.kind;
-        match k {
-            OrderType::MarketSell => true,
-            OrderType::MarketBuy => true,
-            OrderType::LimitSell => false,
-            OrderType::LimitBuy => false,
-            OrderType::StopSell => false,
-            OrderType::StopBuy => false,
-        }
+        matches!(self.kind, OrderType::MarketSell | OrderType::MarketBuy)
     }
 
     // 1 and 2 of an order, or 0.
@@ -138,11 +121,9 @@ impl Order {
         if !floats::finite(self.shares) {
             return 2;
         }
-        if self.priced {
-            if !floats::finite(self.price) {
-                return 2;
-            }
+        match self.price {
+            Some(price) if !floats::finite(price) => 2,
+            _ => 0,
         }
-        0
     }
 }

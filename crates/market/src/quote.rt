@@ -1,7 +1,8 @@
 // Quotes: the rows of a table, and the numbers that a row draws.
-ghost use Rattle.std.specs.Prelude.{◌≡◌};
-ghost use Rattle.market.specs.Faults.{drawn};
-ghost use Rattle.market.specs.Quotes.{blank_quote, is_price, row_tests};
+ghost use Rattle.std.specs.Prelude.{◌≡◌, ◌&&◌};
+ghost use Rattle.market.specs.Quotes.{blank_quote, is_price};
+
+use crate::row::Row;
 
 #[derive(Clone, Copy)]
 pub struct Quote {
@@ -15,7 +16,7 @@ pub struct Quote {
 fn is_price(x: f64) -> bool
     ensures { result ≡ is_price x }
 {
-    if floats::finite(x) { x > 0.0 } else { false }
+    floats::finite(x) && x > 0.0
 }
 
 impl Quote {
@@ -30,20 +31,18 @@ impl Quote {
             date: 0,
         }
     }
+}
 
-    // 1, 2 and 3 of a row, or 0; `least` is the least symbol that ascends.
-    pub fn fault(self, least: u32) -> u32
-        ensures { result ≡ drawn (row_tests least self) }
-    {
-        if self.symbol > 255 {
-            return 1;
-        }
-        if !is_price(self.bid) {
-            return 2;
-        }
-        if !is_price(self.ask) {
-            return 2;
-        }
-        if self.symbol < least { 3 } else { 0 }
+impl Row for Quote {
+    ghost symbol_of = { λ q. q.symbol };
+
+    ghost sound = { λ q. is_price q.bid && is_price q.ask };
+
+    fn symbol(&self) -> u32 {
+        self.symbol
+    }
+
+    fn is_sound(&self) -> bool {
+        is_price(self.bid) && is_price(self.ask)
     }
 }

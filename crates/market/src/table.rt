@@ -1,20 +1,22 @@
 // A table of quotes by symbol, made of rows that ascend.
-ghost use Rattle.std.specs.Prelude.{◌≡◌, false, cond, ltb, take};
-ghost use Rattle.market.specs.Quotes.{empty_table, table_of};
+ghost use Rattle.std.specs.Prelude.{◌≡◌, ◌<◌};
+ghost use mathlib.Core.List.{foldl};
+ghost use Rattle.lists.specs.Lists.{All};
+ghost use Rattle.market.specs.Quotes.{empty_table, put_row, row_at, table_of};
 
 use crate::quote::Quote;
+use crate::row::RowsRead;
 
-// The row of a symbol stands at the symbol's place where `present` says so. `fault` is the number
-// that the first bad row drew, or 0.
+// The row of a symbol stands at the symbol's place. `fault` is the number that the first bad row
+// drew, or 0.
 #[derive(Clone, Copy)]
 pub struct Table {
-    pub present: [bool; 256],
-    pub rows: [Quote; 256],
+    pub rows: [Option<Quote>; 256],
     pub fault: u32,
 }
 
-// The first `count` rows, and the number drawn, or 0. There is a row more than a table has, as
-// `ReadTable::of` takes them.
+// The first `count` rows, and the number drawn, or 0. There is a place more than a table
+// has rows.
 #[derive(Clone, Copy)]
 pub struct QuoteRows {
     pub rows: [Quote; 257],
@@ -29,24 +31,39 @@ pub struct ReadTable {
     table: Table,
 }
 
-// Has a table a row for this symbol, where `present` is what it has at the symbol's place?
-pub fn has_row(symbol: u32, present: bool) -> bool
-    ensures { result ≡ cond (ltb symbol 256) present false }
-{
-    if symbol < 256 { present } else { false }
-}
-
 impl Table {
+    #[tactic(auto, unfolding(crate::specs::Quotes::empty_table))]
     pub fn empty() -> Table
         ensures { result ≡ empty_table }
     {
-        let q = Quote::blank();
         Table {
-            present: [false; 256],
-            rows: [q; 256],
+            rows: [None; 256],
             fault: 0,
         }
     }
+
+    // The row for a symbol.
+    pub fn row(&self, symbol: u32) -> Option<Quote>
+        ensures { result ≡ row_at self.now symbol }
+    {
+        if symbol < 256 {
+            self.rows[symbol as usize]
+        } else {
+            None
+        }
+    }
+}
+
+// The table with these rows put in.
+fn placed(rows: &[Quote]) -> Table
+    requires { All (λ q. q.symbol < 256) rows.now }
+    ensures { result ≡ foldl put_row empty_table rows.now }
+{
+    let mut table = Table::empty();
+    for q in rows {
+        table.rows[q.symbol as usize] = Some(*q);
+    }
+    table
 }
 
 impl ReadTable {
@@ -70,42 +87,16 @@ impl ReadTable {
     pub fn fault(self) -> u32
         ensures { result ≡ self.table.fault }
     {
-        let table = self.table;
-        table.fault
+        self.table.fault
     }
 
-    // The table of the first `n` rows. At most 256 rows ascend, so the 257th draws a number.
-    pub fn of(rows: [Quote; 257], n: usize) -> ReadTable
-        ensures { result.table ≡ table_of (take n rows) }
+    // The table of these rows.
+    pub fn of(rows: &[Quote]) -> ReadTable
+        ensures { result.table ≡ table_of rows.now }
     {
-        let blank = Quote::blank();
-        let mut kept = [blank; 256];
-        let mut present = [false; 256];
-        let mut fault: u32 = 0;
-        let mut least: u32 = 0;
-        let mut i: usize = 0;
-        while i < 257 {
-            if i >= n {
-                break;
-            }
-            let q = rows[i];
-            fault = q.fault(least);
-            if fault != 0 {
-                break;
-            }
-            let symbol = q.symbol;
-            let at = symbol as usize;
-            kept[at] = q;
-            present[at] = true;
-            least = symbol + 1;
-            i = i + 1;
-        }
-        ReadTable {
-            table: Table {
-                present: present,
-                rows: kept,
-                fault: fault,
-            },
-        }
+        let read = RowsRead::of(rows);
+        let mut table = placed(&rows[..read.count]);
+        table.fault = read.fault;
+        ReadTable { table }
     }
 }

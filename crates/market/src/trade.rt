@@ -1,7 +1,7 @@
 // Trades, and the rule by which an order trades on a quote.
 ghost use Rattle.std.specs.Prelude.{◌≡◌, cond};
 ghost use Rattle.market.specs.Orders.{is_sell};
-ghost use Rattle.market.specs.Trades.{blank_trade, rises, meets_rule, trade_of, row_if, trade_on, trade_in};
+ghost use Rattle.market.specs.Trades.{blank_trade, rises, meets_rule, trade_of, trade_on};
 
 use crate::order::{Order, OrderType};
 use crate::quote::Quote;
@@ -21,25 +21,11 @@ pub struct Trade {
     pub date: i64,
 }
 
-// What an order does on the row for its symbol.
-#[derive(Clone, Copy)]
-pub enum Fill {
-    Traded(Trade),
-    Rests,
-}
-
 // Does a limit or stop order wait for the quote to rise to its price? If not, for it to fall.
 fn rises(k: OrderType) -> bool
     ensures { result ≡ rises k }
 {
-    match k {
-        OrderType::MarketSell => false,
-        OrderType::MarketBuy => false,
-        OrderType::LimitSell => true,
-        OrderType::LimitBuy => false,
-        OrderType::StopSell => false,
-        OrderType::StopBuy => true,
-    }
+    matches!(k, OrderType::LimitSell | OrderType::StopBuy)
 }
 
 // A sell trades at the bid, a buy at the ask.
@@ -50,7 +36,7 @@ fn price_at(o: Order, q: Quote) -> f64
 }
 
 // Does this order trade on this quote? Without a price, what waits for a rise trades, the others
-// never. (One match with the rules in its arms keeps LLVM from joining the copies of a tick's arrays.)
+// never.
 fn meets_rule(o: Order, q: Quote) -> bool
     ensures { result ≡ meets_rule o q }
 {
@@ -58,11 +44,12 @@ fn meets_rule(o: Order, q: Quote) -> bool
         return true;
     }
     let at = price_at(o, q);
-    let k = o.kind;
-    if rises(k) {
-        return if o.priced { o.price <= at } else { true };
+    let waits_for_rise = rises(o.kind);
+    match o.price {
+        None => waits_for_rise,
+        Some(price) if waits_for_rise => price <= at,
+        Some(price) => price >= at,
     }
-    if o.priced { o.price >= at } else { false }
 }
 
 impl Trade {
@@ -104,16 +91,16 @@ impl Trade {
     }
 }
 
-// What an order does where its symbol has the row `q`, if `present`.
-pub fn execute(o: Order, present: bool, q: Quote) -> Fill
-    ensures { trade_in result ≡ trade_on (row_if present q) o }
+// The trade that an order makes on the row for its symbol, where there is one and it meets the
+// order's rule.
+#[tactic(auto, unfolding(crate::specs::Trades::trade_on))]
+pub fn execute(o: Order, row: Option<Quote>) -> Option<Trade>
+    ensures { result ≡ trade_on row o }
 {
-    if !present {
-        return Fill::Rests;
+    let q = row?;
+    if meets_rule(o, q) {
+        Some(Trade::of(o, q))
+    } else {
+        None
     }
-    if !meets_rule(o, q) {
-        return Fill::Rests;
-    }
-    let t = Trade::of(o, q);
-    Fill::Traded(t)
 }

@@ -4,6 +4,7 @@ ghost use Rattle.market.specs.Faults.{drawn};
 ghost use Rattle.market.specs.VendorQuotes.{blank_vendor, quote_of, vendor_row_tests};
 
 use crate::quote::Quote;
+use crate::row::Row;
 
 #[derive(Clone, Copy)]
 pub struct VendorQuote {
@@ -44,7 +45,6 @@ impl VendorQuote {
     pub fn fault(self) -> u32
         ensures { result ≡ drawn (vendor_row_tests self) }
     {
-        let q = self.quote();
-        q.fault(0)
+        self.quote().fault(0)
     }
 }

@@ -1,7 +1,10 @@
 // Weights of a model portfolio, and the numbers that rows of them draw.
-ghost use Rattle.std.specs.Prelude.{◌≡◌};
-ghost use Rattle.market.specs.Faults.{drawn};
-ghost use Rattle.market.specs.Weights.{weight_tests, weights_of};
+ghost use Rattle.std.specs.Prelude.{◌≡◌, ◌≤◌, length, replicate};
+ghost use Rattle.lists.specs.Lists.{over};
+ghost use Rattle.market.specs.Weights.{blank_weight, weights_of};
+ghost use Rattle.std.specs.Float.Ieee.Scale.{finite};
+
+use crate::row::{Row, RowsRead};
 
 #[derive(Clone, Copy)]
 pub struct Weight {
@@ -13,55 +16,65 @@ pub struct Weight {
 // drew, or 0. Its fields are private, so only reading rows makes one.
 #[derive(Clone, Copy)]
 pub struct Weights {
-    rows: [Weight; 257],
+    rows: [Weight; 256],
     count: usize,
     fault: u32,
 }
 
-impl Weight {
-    // 1, 2 and 3 of a row, or 0; `least` is the least symbol that ascends.
-    pub fn fault(self, least: u32) -> u32
-        ensures { result ≡ drawn (weight_tests least self) }
-    {
-        if self.symbol > 255 {
-            return 1;
-        }
-        if !floats::finite(self.weight) {
-            return 2;
-        }
-        if self.symbol < least { 3 } else { 0 }
+impl Row for Weight {
+    ghost symbol_of = { λ w. w.symbol };
+
+    ghost sound = { λ w. finite w.weight };
+
+    fn symbol(&self) -> u32 {
+        self.symbol
+    }
+
+    fn is_sound(&self) -> bool {
+        floats::finite(self.weight)
     }
 }
 
-impl Weights {
-    // The weights of the first `n` rows. At most 256 rows ascend, so the 257th draws a number.
-    pub fn of(rows: [Weight; 257], n: usize) -> Weights
-        ensures { result ≡ weights_of rows n }
+impl Weight {
+    // A row that nobody gave.
+    pub fn blank() -> Weight
+        ensures { result ≡ blank_weight }
     {
-        let mut fault: u32 = 0;
-        let mut least: u32 = 0;
-        let mut i: usize = 0;
-        while i < 257 {
-            if i >= n {
-                break;
-            }
-            let w = rows[i];
-            fault = w.fault(least);
-            if fault != 0 {
-                break;
-            }
-            least = w.symbol + 1;
-            i = i + 1;
+        Weight {
+            symbol: 0,
+            weight: 0.0,
         }
+    }
+}
+
+// These rows, in the first places of an array.
+fn kept(rows: &[Weight]) -> [Weight; 256]
+    requires { length rows.now ≤ 256 }
+    ensures { result ≡ over rows.now (replicate 256 blank_weight) }
+{
+    let blank = Weight::blank();
+    let mut kept = [blank; 256];
+    for (i, w) in rows.iter().enumerate() {
+        kept[i] = *w;
+    }
+    kept
+}
+
+impl Weights {
+    // The weights of these rows.
+    pub fn of(rows: &[Weight]) -> Weights
+        ensures { result ≡ weights_of rows.now }
+    {
+        let read = RowsRead::of(rows);
         Weights {
-            rows: rows,
-            count: i,
-            fault: fault,
+            rows: kept(&rows[..read.count]),
+            count: read.count,
+            fault: read.fault,
         }
     }
 
     // The rows that were read; those from `count` on do not count.
-    pub fn rows(self) -> [Weight; 257]
+    pub fn rows(self) -> [Weight; 256]
         ensures { result ≡ self.rows }
     {
         self.rows

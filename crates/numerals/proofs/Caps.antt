@@ -5,7 +5,8 @@ use native.Mathlib.Omega.{arith}
 use mathlib.Core.Path.{◌≡◌, refl, ap}
 use mathlib.Core.Bool.{Bool, true, false}
 use mathlib.Core.List.{List}
-use mathlib.Core.Option.{Option, none, some}
+use Rattle.std.specs.declared.option.Option.{Option}
+use Rattle.std.specs.declared.option.Option.TheVariants.{None, Some}
 use borrow.Author.Tests.{leb-true, leb-false, le-ltb, lt-ltb, lt-leb}
 use lib.Dec.{leb}
 use lib.ListN.{length, get_or, drop, drop_of_length-le}
@@ -23,16 +24,16 @@ by-cap P n small large = go (leb n (2 ^ 63)) refl
     go false e = let l = leb-false n (2 ^ 63) e in let m : capped n ≡ 2 ^ 63 + 1 = omega arith in rw m (large l)
 
 pub cap-positive : (o : Option ℕ) → positive_of (capped_in o) ≡ positive_of o
-cap-positive none = refl
-cap-positive (some n) =
-    by-cap (λ m. positive_of (some m) ≡ positive_of (some n)) n
+cap-positive None = refl
+cap-positive (Some n) =
+    by-cap (λ m. positive_of (Some m) ≡ positive_of (Some n)) n
     (λ h. refl)
     (λ h. rw (le-ltb n (2 ^ 63) (omega arith)))
 
 pub cap-negative : (o : Option ℕ) → negative_of (capped_in o) ≡ negative_of o
-cap-negative none = refl
-cap-negative (some n) =
-    by-cap (λ m. negative_of (some m) ≡ negative_of (some n)) n
+cap-negative None = refl
+cap-negative (Some n) =
+    by-cap (λ m. negative_of (Some m) ≡ negative_of (Some n)) n
     (λ h. refl)
     (λ h. rw (lt-ltb 0 n (omega arith), lt-leb n (2 ^ 63) h))
 
@@ -50,7 +51,7 @@ abbrev pub from : ℕ → List ℕ → Option ℕ
 from n l = some_if (are_digits 10 l) (capped (value_from 10 n l))
 
 module _ (s : List ℕ) where
-  pub spare : no_spare s ≡ false → none ≡ capped_in (decimal_in s)
+  pub spare : no_spare s ≡ false → None ≡ capped_in (decimal_in s)
   unfolding decimal_in
   spare e = rw e
 
@@ -62,18 +63,18 @@ module _ (s : List ℕ) where
       go true = refl
       go false = refl
 
-module _ (s : List ℕ) (n i d : ℕ) (h : i < length s) (e : d ≡ digit_of (get_or s i 0)) where
-  pub bad-digit : 9 < d → none ≡ from n (drop i s)
+module _ (s : List ℕ) (n i : ℕ) (h : i < length s) where
+  pub bad-digit : 9 < digit_of (get_or s i 0) → None ≡ from n (drop i s)
   unfolding are_digits
-  bad-digit l = rw (drop-cons s i 0 h, le-ltb (digit_of (get_or s i 0)) 10 (omega arith))
+  bad-digit l = rw (drop-cons s i 0 h, le-ltb (digit_of (get_or s i 0)) 10 l)
 
-  pub next-digit : d ≤ 9 → from (capped (n * 10 + d)) (drop (i + 1) s) ≡ from n (drop i s)
+  pub next-digit : (d : ℕ) → d ≡ digit_of (get_or s i 0) → d ≤ 9 → from (capped (n * 10 + d)) (drop (i + 1) s) ≡ from n (drop i s)
   unfolding are_digits value_from
-  next-digit l =
+  next-digit d e l =
       let r = drop (suc i) s in
       rw (drop-cons s i 0 h, lt-ltb (digit_of (get_or s i 0)) 10 (omega arith), add-one i, e)
       (ap (λ (v : ℕ). some_if (are_digits 10 r) v) (capped-value (n * 10 + digit_of (get_or s i 0)) r))
 
-pub all_read : (s : List ℕ) (n i : ℕ) → n ≤ 2 ^ 63 + 1 → length s ≤ i → some n ≡ from n (drop i s)
+pub all_read : (s : List ℕ) (n i : ℕ) → n ≤ 2 ^ 63 + 1 → length s ≤ i → Some n ≡ from n (drop i s)
 unfolding are_digits value_from
 all_read s n i h l = let m : capped n ≡ n = omega arith in rw (drop_of_length-le s l, m)

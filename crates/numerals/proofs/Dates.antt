@@ -4,7 +4,9 @@ use native.Mathlib.Omega.{arith}
 use mathlib.Core.Path.{◌≡◌, refl, ap, subst, ◌∙◌}
 use mathlib.Core.Bool.{Bool, true, false, ◌&&◌, cond}
 use mathlib.Core.List.{List, [], ◌∷◌}
-use mathlib.Core.Option.{Option, none, some, none-ne-some}
+use Rattle.std.specs.declared.option.Option.{Option}
+use Rattle.std.specs.declared.option.Option.TheVariants.{None, Some}
+use Rattle.std.proofs.lemmas.Option.{none-some}
 use borrow.Author.Tests.{lt-ltb, le-leb, ne_eqb, ltb-true, leb-true, eqb-true, eqb-false}
 use lib.Dec.{ltb, leb, eqb}
 use lib.IntN.{ℤ, pos, negsuc, nat_abs}
@@ -31,7 +33,7 @@ lacks-first : (s : List ℕ) → Lacks 45 s → get_or s 0 0 ≡ 45 → ⊥
 lacks-first [] h = eqb-false 0 45 refl
 lacks-first (b ∷ s) h = eqb-false b 45 h.0
 
-pub date-is : (z : ℤ) → SFits w64 z → date_in (date_text z) ≡ some z
+pub date-is : (z : ℤ) → SFits w64 z → date_in (date_text z) ≡ Some z
 unfolding date_in
 date-is (pos n) f = no_minus (digits n) (lacks-first (digits n) (digits-lack-minus n)) ∙ ap positive_of (decimal-is n) ∙ if_some _ _ (lt-ltb n (2 ^ 63) f.sfits)
 date-is (negsuc n) f = ap negative_of (decimal-is (suc n)) ∙ if_some _ _ (both_true (lt-ltb 0 (suc n) (omega arith)) (le-leb (suc n) (2 ^ 63) f.sfits))
@@ -43,33 +45,33 @@ record Read (s : List ℕ) (z : ℤ) : Type 0 where
   text : s ≡ date_text z
   fits : SFits w64 z
 
-positive-read : (s : List ℕ) (o : Option ℕ) (z : ℤ) → decimal_in s ≡ o → positive_of o ≡ some z → Read s z
-positive-read s none z d e = absurd (none-ne-some z e)
-positive-read s (some n) z d e =
+positive-read : (s : List ℕ) (o : Option ℕ) (z : ℤ) → decimal_in s ≡ o → positive_of o ≡ Some z → Read s z
+positive-read s None z d e = absurd (none-some z e)
+positive-read s (Some n) z d e =
     let p = some-if (ltb n (2 ^ 63)) (pos n) z e in
     subst (Read s) p.1 (record { text = decimal-text s n d; fits = record { sfits = ltb-true n (2 ^ 63) p.0 } })
 
-negative-read : (s : List ℕ) (o : Option ℕ) (z : ℤ) → decimal_in s ≡ o → negative_of o ≡ some z → Read (45 ∷ s) z
-negative-read s none z d e = absurd (none-ne-some z e)
-negative-read s (some zero) z d e = absurd (none-ne-some z e)
-negative-read s (some (suc n)) z d e =
+negative-read : (s : List ℕ) (o : Option ℕ) (z : ℤ) → decimal_in s ≡ o → negative_of o ≡ Some z → Read (45 ∷ s) z
+negative-read s None z d e = absurd (none-some z e)
+negative-read s (Some zero) z d e = absurd (none-some z e)
+negative-read s (Some (suc n)) z d e =
     let p = some-if (ltb 0 (suc n) && leb (suc n) (2 ^ 63)) (negsuc n) z e in
     let q = and-true (ltb 0 (suc n)) (leb (suc n) (2 ^ 63)) p.0 in
     subst (Read (45 ∷ s)) p.1 (record { text = ap (λ (t : List ℕ). 45 ∷ t) (decimal-text s (suc n) d); fits = record { sfits = leb-true (suc n) (2 ^ 63) q.1 } })
 
-read : (s : List ℕ) (z : ℤ) → date_in s ≡ some z → Read s z
+read : (s : List ℕ) (z : ℤ) → date_in s ≡ Some z → Read s z
 unfolding date_in
-read [] z e = absurd (none-ne-some z e)
+read [] z e = absurd (none-some z e)
 read (b ∷ s) z e = go (eqb b 45) refl e
   where
-    go : (t : Bool) → eqb b 45 ≡ t → cond t (negative_of (decimal_in s)) (positive_of (decimal_in (b ∷ s))) ≡ some z → Read (b ∷ s) z
+    go : (t : Bool) → eqb b 45 ≡ t → cond t (negative_of (decimal_in s)) (positive_of (decimal_in (b ∷ s))) ≡ Some z → Read (b ∷ s) z
     go true m e = rw (eqb-true b 45 m) (negative-read s (decimal_in s) z refl e)
     go false m e = positive-read (b ∷ s) (decimal_in (b ∷ s)) z refl e
 
-pub date-text : (s : List ℕ) (z : ℤ) → date_in s ≡ some z → s ≡ date_text z
+pub date-text : (s : List ℕ) (z : ℤ) → date_in s ≡ Some z → s ≡ date_text z
 date-text s z e = (read s z e).text
 
-pub date-fits : (s : List ℕ) (z : ℤ) → date_in s ≡ some z → SFits w64 z
+pub date-fits : (s : List ℕ) (z : ℤ) → date_in s ≡ Some z → SFits w64 z
 date-fits s z e = (read s z e).fits
 
 -- ---- how long it is

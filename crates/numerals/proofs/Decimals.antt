@@ -4,7 +4,7 @@ use native.Mathlib.Omega.{arith}
 use mathlib.Core.Path.{◌≡◌, refl, sym, ap, ◌∙◌}
 use mathlib.Core.Bool.{Bool, true, false, not, ◌&&◌}
 use mathlib.Core.List.{List, [], ◌∷◌, ◌++◌}
-use mathlib.Core.Option.{some}
+use Rattle.std.specs.declared.option.Option.TheVariants.{Some}
 use borrow.Author.Tests.{ne_eqb, eqb-false, not-true}
 use lib.Dec.{eqb, lit<, lit≤}
 use lib.ListN.{length}
@@ -57,11 +57,11 @@ unfolding no_spare last_digits places_by
 digits-spare zero = refl
 digits-spare (suc n) = leads-spare (digits (suc n)) (digits-lead (suc n) (omega arith))
 
-pub decimal-is : (n : ℕ) → decimal_in (digits n) ≡ some n
+pub decimal-is : (n : ℕ) → decimal_in (digits n) ≡ Some n
 unfolding decimal_in
 decimal-is n =
     if_some _ _ (both_true (digits-spare n) (digits_are n))
-    ∙ ap some (value-last 10 (lit< tt) (lit≤ tt) (places n) n (below-places n))
+    ∙ ap Some (value-last 10 (lit< tt) (lit≤ tt) (places n) n (below-places n))
 
 -- ---- what is read is what would be written
 
@@ -74,7 +74,7 @@ places-are (b ∷ c ∷ s) f e =
     let other : digit_of b ≡ 0 → ⊥ = λ z. eqb-false b 48 (not-true (eqb b 48) f) (sym (digit_glyph b (omega arith)) ∙ ap glyph z) in
     places-value (c ∷ s) (0 * 10 + digit_of b) (omega arith) p.1 ∙ omega (arith, places-one (0 * 10 + digit_of b) (omega arith))
 
-pub decimal-text : (s : List ℕ) (n : ℕ) → decimal_in s ≡ some n → s ≡ digits n
+pub decimal-text : (s : List ℕ) (n : ℕ) → decimal_in s ≡ Some n → s ≡ digits n
 unfolding decimal_in
 decimal-text s n e =
     let p = some-if (no_spare s && are_digits 10 s) (value_from 10 0 s) n e in

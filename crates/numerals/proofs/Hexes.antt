@@ -4,7 +4,7 @@ use native.Mathlib.Omega.{arith}
 use mathlib.Core.Path.{◌≡◌, refl, sym, ap, ◌∙◌}
 use mathlib.Core.Bool.{Bool, true, false, ◌&&◌}
 use mathlib.Core.List.{List}
-use mathlib.Core.Option.{none, some}
+use Rattle.std.specs.declared.option.Option.TheVariants.{None, Some}
 use borrow.Author.Tests.{eq-eqb, eqb-true}
 use lib.Dec.{eqb, lit<, lit≤}
 use lib.Ieee.{binary64, of_bits}
@@ -18,13 +18,13 @@ use Rattle.numerals.proofs.Digits.{length_last, last-are, value-last, last-value
 pub length-hex : (n : ℕ) → length (hex16 n) ≡ 16
 length-hex n = length_last 16 16 n
 
-pub bits_are : (n : ℕ) → n < 2 ^ 64 → bits_in (hex16 n) ≡ some n
+pub bits_are : (n : ℕ) → n < 2 ^ 64 → bits_in (hex16 n) ≡ Some n
 unfolding bits_in
 bits_are n h =
     if_some _ _ (both_true (eq-eqb (length (hex16 n)) 16 (length-hex n)) (last-are 16 (lit< tt) (lit≤ tt) 16 n))
-    ∙ ap some (value-last 16 (lit< tt) (lit≤ tt) 16 n h)
+    ∙ ap Some (value-last 16 (lit< tt) (lit≤ tt) 16 n h)
 
-module _ (s : List ℕ) (n : ℕ) (e : bits_in s ≡ some n) where
+module _ (s : List ℕ) (n : ℕ) (e : bits_in s ≡ Some n) where
   is_read : (length s ≡ 16) × (are_digits 16 s ≡ true) × (value_from 16 0 s ≡ n)
   unfolding bits_in
   is_read =
@@ -46,10 +46,10 @@ module _ (s : List ℕ) (n : ℕ) (e : bits_in s ≡ some n) where
       rw (← is_read.2) (rw k at (value-below 16 s 0 0 z is_read.1))
 
 -- the float of the bits
-pub float-bits : (s : List ℕ) → float_of s ≡ given (bits_in s) none (λ n. some (of_bits binary64 n))
+pub float-bits : (s : List ℕ) → float_of s ≡ given (bits_in s) None (λ n. Some (of_bits binary64 n))
 unfolding float_of bits_in
 float-bits s = go (eqb (length s) 16 && are_digits 16 s)
   where
-    go : (t : Bool) → some_if t (of_bits binary64 (value_from 16 0 s)) ≡ given (some_if t (value_from 16 0 s)) none (λ n. some (of_bits binary64 n))
+    go : (t : Bool) → some_if t (of_bits binary64 (value_from 16 0 s)) ≡ given (some_if t (value_from 16 0 s)) None (λ n. Some (of_bits binary64 n))
     go true = refl
     go false = refl

@@ -1,5 +1,5 @@
 -- How many decimal digits a number has. Assumes nothing.
-use Prim.Native.Nat.{ℕ, zero, suc, ◌+◌, ◌*◌, ◌/◌, ◌^◌, ◌≤◌, ◌<◌}
+use Prim.Native.Nat.{ℕ, zero, suc, ◌+◌, ◌*◌, ◌/◌, ◌^◌, ◌≤◌, ◌<◌, max}
 use native.Mathlib.Nat.{pow-suc}
 use native.Mathlib.Omega.{arith}
 use mathlib.Core.Path.{◌≡◌, refl, ap, ◌∙◌}
@@ -57,6 +57,26 @@ places-most (suc k) n h = go (ltb n 10) refl (places-most k (n / 10) (omega (ari
     go : (t : Bool) → ltb n 10 ≡ t → places (n / 10) ≤ suc k → places n ≤ suc (suc k)
     go true e l = omega (arith, places-one n (ltb-true n 10 e))
     go false e l = omega (arith, places-suc n (ltb-false n 10 e))
+
+pow-positive : (k : ℕ) → 0 < 10 ^ k
+pow-positive zero = omega arith
+pow-positive (suc k) = omega (arith, pow-suc 10 k, pow-positive k)
+
+-- one more than the greatest power of 10 that is not above the number, 0 counting as 1
+power-is : (n k : ℕ) → 0 < n → 10 ^ k ≤ n → n < 10 * 10 ^ k → suc k ≡ places n
+power-is n k h l m = by-places (λ n. (k : ℕ) → 0 < n → 10 ^ k ≤ n → n < 10 * 10 ^ k → suc k ≡ places n) few more n k h l m
+  where
+    few : (n : ℕ) → n < 10 → (k : ℕ) → 0 < n → 10 ^ k ≤ n → n < 10 * 10 ^ k → suc k ≡ places n
+    few n d zero h l m = omega (arith, places-one n d)
+    few n d (suc k) h l m = absurd (omega (arith, pow-suc 10 k, pow-positive k))
+
+    more : (n : ℕ) → 9 < n → ((k : ℕ) → 0 < n / 10 → 10 ^ k ≤ n / 10 → n / 10 < 10 * 10 ^ k → suc k ≡ places (n / 10)) → (k : ℕ) → 0 < n → 10 ^ k ≤ n → n < 10 * 10 ^ k → suc k ≡ places n
+    more n d p zero h l m = absurd (omega arith)
+    more n d p (suc k) h l m = omega (arith, places-suc n d, p k (omega arith) (omega (arith, pow-suc 10 k)) (omega (arith, pow-suc 10 k)))
+
+pub by-power : (n m k : ℕ) → m ≡ max n 1 → 10 ^ k ≤ m → m < 10 * 10 ^ k → k + 1 ≡ places n
+by-power zero m k e l h = omega (arith, power-is m k (omega arith) l h, places-one m (omega arith), places-one 0 (omega arith))
+by-power (suc n) m k e l h = let q : m ≡ suc n = omega arith in omega (arith, power-is m k (omega arith) l h, ap places q)
 
 -- one more digit, behind a number that is not 0
 module _ (v d : ℕ) (h : 0 < v) (l : d < 10) where

@@ -1,6 +1,6 @@
 -- Numbers as quote lines write them: document 02, request 2. What is written, and what is read. Definitions only.
 use Rattle.std.specs.Prelude.{ℕ, zero, suc, ◌+◌, ◌/◌, ◌%◌, ◌^◌, min, Bool, true, false, not, ◌&&◌, cond, List, [], ◌∷◌, ◌++◌, ◌≡◌, ltb, leb, eqb, ℤ, pos, negsuc, neg_ℤ, length, take}
-use Rattle.std.proofs.Math.Option.{Option, none, some}
+use Rattle.std.specs.Prelude.{Option, None, Some}
 use Rattle.words.specs.Numbers.{are_digits, value_from, some_if, positive_of}
 use Rattle.numerals.specs.declared.spelled.Spelled.{Spelled}
 
@@ -50,12 +50,12 @@ decimal_in s = some_if (no_spare s && are_digits 10 s) (value_from 10 0 s)
 
 -- a number behind a minus: never zero, and not below what 64 bits hold
 abbrev pub negative_of : Option ℕ → Option ℤ
-negative_of none = none
-negative_of (some n) = some_if (ltb 0 n && leb n (2 ^ 63)) (neg_ℤ (pos n))
+negative_of None = None
+negative_of (Some n) = some_if (ltb 0 n && leb n (2 ^ 63)) (neg_ℤ (pos n))
 
 -- a date that 64 bits hold
 unfoldable pub date_in : List ℕ → Option ℤ
-date_in [] = none
+date_in [] = None
 date_in (b ∷ s) = cond (eqb b 45) (negative_of (decimal_in s)) (positive_of (decimal_in (b ∷ s)))
 
 -- 16 lower-case hexadecimal digits, as bits
@@ -69,8 +69,8 @@ abbrev pub capped : ℕ → ℕ
 capped n = min n (2 ^ 63 + 1)
 
 abbrev pub capped_in : Option ℕ → Option ℕ
-capped_in none = none
-capped_in (some n) = some (capped n)
+capped_in None = None
+capped_in (Some n) = Some (capped n)
 
 -- the first bytes of an array spell a text
 pub record Spells (text : List ℕ) (r : Spelled) : Type 0 where

@@ -5,9 +5,9 @@ ghost use Rattle.std.specs.Float.Ieee.{to_bits};
 ghost use Rattle.lists.specs.Lists.{stored};
 ghost use Rattle.numerals.specs.Numerals.{glyph, last_digits, places, digits, date_text, hex16, Spells};
 
-use words::number;
+use std::num::f64_to_bits_with_nan;
 
-// The first `count` bytes are the text.
+// The first `count` bytes are the text: fixed memory, since nothing is allocated here.
 #[derive(Clone, Copy)]
 pub struct Spelled {
     pub bytes: [u8; 20],
@@ -18,23 +18,14 @@ fn glyph(d: u64) -> u8
     requires { d < 16 }
     ensures { result ≡ glyph d }
 {
-    if d < 10 {
-        return 48 + d as u8;
-    }
-    87 + d as u8
+    if d < 10 { 48 + d as u8 } else { 87 + d as u8 }
 }
 
 // How many decimal digits n has.
 fn places(n: u64) -> usize
     ensures { result ≡ places n }
 {
-    let mut k: usize = 1;
-    let mut rest = n;
-    while rest > 9 {
-        rest = rest / 10;
-        k = k + 1;
-    }
-    k
+    n.max(1).ilog10() as usize + 1
 }
 
 // The last `k` digits of n, behind the first `at` bytes.
@@ -44,9 +35,7 @@ fn spell(bytes: [u8; 20], at: usize, base: u64, n: u64, k: usize) -> [u8; 20]
 {
     let mut text = bytes;
     let mut rest = n;
-    let mut i = k;
-    while i > 0 {
-        i = i - 1;
+    for i in (0..k).rev() {
         text[at + i] = glyph(rest % base);
         rest = rest / base;
     }
@@ -68,7 +57,7 @@ pub fn decimal_text(n: u64) -> Spelled
 pub fn date_text(date: i64) -> Spelled
     ensures { Spells (date_text date) result }
 {
-    let n = number::magnitude(date);
+    let n = date.unsigned_abs();
     if date >= 0 {
         return decimal_text(n);
     }
@@ -79,22 +68,12 @@ pub fn date_text(date: i64) -> Spelled
     }
 }
 
-// The bits of a float; all NaNs are one.
-fn bits(x: f64) -> u64
-    ensures { result ≡ to_bits binary64 x }
-{
-    if x != x {
-        return 9221120237041090560;
-    }
-    f64::to_bits(x)
-}
-
 // The 16 hexadecimal digits of a float's bits.
 pub fn float_text(x: f64) -> Spelled
     ensures { Spells (hex16 (to_bits binary64 x)) result }
 {
     Spelled {
-        bytes: spell([0; 20], 0, 16, bits(x), 16),
+        bytes: spell([0; 20], 0, 16, f64_to_bits_with_nan(x), 16),
         count: 16,
     }
 }

@@ -5,72 +5,59 @@ use mathlib.Core.Bool.{Bool, true, false, cond}
 use mathlib.Core.Path.{◌≡◌, refl, ◌∙◌, sym, ap, ap₂}
 use mathlib.Core.Logic.{◌↔◌}
 use mathlib.Core.List.{List, [], ◌∷◌, ◌++◌}
-use mathlib.Core.Option.{Option, none, some}
+use Rattle.std.specs.declared.option.Option.{Option}
+use Rattle.std.specs.declared.option.Option.TheVariants.{None, Some}
 use Rattle.lists.specs.Lists.{given, All}
 use Rattle.market.specs.declared.quote.Quote.{Quote}
 use Rattle.market.specs.declared.trade.Trade.{Trade}
-use Rattle.orders.specs.Orders.{Taken, End, traded, deleted, Fate, resting, ended, Entry, ended_by, trade_for, trade_end}
+use Rattle.orders.specs.Orders.{Taken, End, traded, deleted, Fate, ended, Entry, ended_by, trade_for, trade_end}
 use Rattle.orders.specs.Claim.{Calls, trade_in, end_in, fate_of, CanTrade, FirstTrade, Life}
-
-last-by : (f g : Option End) (r s : Fate) → r ≡ ended_by g s → given f r ended ≡ ended_by g (given f s ended)
-last-by none g r s h = h
-last-by (some x) none r s h = refl
-last-by (some x) (some y) r s h = refl
-
-fate-one : (g : Option End) → given g resting ended ≡ ended_by g resting
-fate-one none = refl
-fate-one (some f) = refl
 
 -- `end_in`, from its two tests
 abbrev end_by : Bool → Option Trade → Option End
-end_by b x = cond b (some deleted) (trade_end x)
+end_by b x = cond b (Some deleted) (trade_end x)
 
 -- a deletion is no check
 pub record Apart (K : Calls) : Type 0 where
-  pub apart : (n : ℕ) (c : K.Call) → K.deletes n c ≡ true → K.tradable c ≡ none
+  pub apart : (n : ℕ) (c : K.Call) → K.deletes n c ≡ true → K.tradable c ≡ None
 
 module _ (K : Calls) where
   -- the last call comes last
   pub fate-last : (w : Taken) (n : ℕ) (cs : List K.Call) (c : K.Call) → fate_of K w n (cs ++ (c ∷ [])) ≡ ended_by (end_in K w n c) (fate_of K w n cs)
-  fate-last w n [] c = fate-one (end_in K w n c)
-  fate-last w n (d ∷ cs) c = last-by (end_in K w n d) (end_in K w n c) (fate_of K w n (cs ++ (c ∷ []))) (fate_of K w n cs) (fate-last w n cs c)
+  fate-last w n [] c = grind arith
+  fate-last w n (d ∷ cs) c = grind (arith, fate-last w n cs c)
 
   -- ---- to the first trade
 
   first_by : (w : Taken) (n : ℕ) (c : K.Call) (cs : List K.Call) (x : Trade) → (fate_of K w n cs ≡ ended (traded x) → FirstTrade K w n cs x) →
       (b : Bool) (y : Option Trade) → K.deletes n c ≡ b → trade_in K w c ≡ y → given (end_by b y) (fate_of K w n cs) ended ≡ ended (traded x) → FirstTrade K w n (c ∷ cs) x
-  first_by w n c cs x ih true y d t e = absurd (let z : ◌≡◌ {A = ℕ} 0 1 = cc in omega arith)
-  first_by w n c cs x ih false none d t e =
+  first_by w n c cs x ih true y d t e = grind arith
+  first_by w n c cs x ih false None d t e =
       let r = ih e in
       let k = r.can in
       record {
         can = record { before = c ∷ k.before; here = k.here; rest = k.rest; split = ap (λ l. c ∷ l) k.split; trades = k.trades; not-deleted = (d, k.not-deleted) };
         none-sooner = (t, r.none-sooner);
       }
-  first_by w n c cs x ih false (some y) d t e =
+  first_by w n c cs x ih false (Some y) d t e =
       record { can = record { before = []; here = c; rest = cs; split = refl; trades = cc; not-deleted = tt }; none-sooner = tt }
 
   to-first : (w : Taken) (n : ℕ) (cs : List K.Call) (x : Trade) → fate_of K w n cs ≡ ended (traded x) → FirstTrade K w n cs x
-  to-first w n [] x e = absurd (let z : ◌≡◌ {A = ℕ} 0 1 = cc in omega arith)
+  to-first w n [] x e = grind arith
   to-first w n (c ∷ cs) x e = first_by w n c cs x (to-first w n cs x) (K.deletes n c) (trade_in K w c) refl refl e
 
   -- ---- and back
 
   module _ (a : Apart K) where
     -- a call that deletes trades nothing
-    no-trade : (w : Taken) (T : Option (List Quote)) (x : Trade) → T ≡ none → given T none (λ t. trade_for t w.order) ≡ some x → ⊥
-    no-trade w none x t e = let z : ◌≡◌ {A = ℕ} 0 1 = cc in omega arith
-    no-trade w (some r) x t e = let z : ◌≡◌ {A = ℕ} 0 1 = cc in omega arith
+    no-trade : (w : Taken) (T : Option (List Quote)) (x : Trade) → T ≡ None → given T None (λ t. trade_for t w.order) ≡ Some x → ⊥
+    no-trade w T x t e = grind arith
 
-    no-deletion-by : (w : Taken) (n : ℕ) (c : K.Call) (x : Trade) → trade_in K w c ≡ some x → (b : Bool) → K.deletes n c ≡ b → K.deletes n c ≡ false
-    no-deletion-by w n c x e false d = d
-    no-deletion-by w n c x e true d = absurd (no-trade w (K.tradable c) x (a.apart n c d) e)
+    pub no-deletion : (w : Taken) (n : ℕ) (c : K.Call) (x : Trade) → trade_in K w c ≡ Some x → K.deletes n c ≡ false
+    no-deletion w n c x e = grind (arith, a.apart n c)
 
-    pub no-deletion : (w : Taken) (n : ℕ) (c : K.Call) (x : Trade) → trade_in K w c ≡ some x → K.deletes n c ≡ false
-    no-deletion w n c x e = no-deletion-by w n c x e (K.deletes n c) refl
-
-    of-first : (w : Taken) (n : ℕ) (before : List K.Call) (here : K.Call) (rest : List K.Call) (x : Trade) → trade_in K w here ≡ some x →
-        All (λ c. trade_in K w c ≡ none) before → All (λ c. K.deletes n c ≡ false) before → fate_of K w n (before ++ (here ∷ rest)) ≡ ended (traded x)
+    of-first : (w : Taken) (n : ℕ) (before : List K.Call) (here : K.Call) (rest : List K.Call) (x : Trade) → trade_in K w here ≡ Some x →
+        All (λ c. trade_in K w c ≡ None) before → All (λ c. K.deletes n c ≡ false) before → fate_of K w n (before ++ (here ∷ rest)) ≡ ended (traded x)
     of-first w n [] here rest x t s d = ap₂ (λ b y. given (end_by b y) (fate_of K w n rest) ended) (no-deletion w n here x t) t
     of-first w n (c ∷ l) here rest x t s d =
         ap₂ (λ b y. given (end_by b y) (fate_of K w n (l ++ (here ∷ rest))) ended) d.0 s.0 ∙ of-first w n l here rest x t s.1 d.1
@@ -85,10 +72,10 @@ module _ (K : Calls) where
     -- where some check can trade it, it trades
     traded-by : (w : Taken) (n : ℕ) (r : Fate) (c : K.Call) (y : Option Trade) → K.deletes n c ≡ false → trade_in K w c ≡ y → ((x : Trade) × (r ≡ ended (traded x))) →
         (x : Trade) × (given (end_in K w n c) r ended ≡ ended (traded x))
-    traded-by w n r c none d t h = (h.0, ap₂ (λ b y. given (end_by b y) r ended) d t ∙ h.1)
-    traded-by w n r c (some y) d t h = (y, ap₂ (λ b y. given (end_by b y) r ended) d t)
+    traded-by w n r c None d t h = (h.0, ap₂ (λ b y. given (end_by b y) r ended) d t ∙ h.1)
+    traded-by w n r c (Some y) d t h = (y, ap₂ (λ b y. given (end_by b y) r ended) d t)
 
-    trades : (w : Taken) (n : ℕ) (before : List K.Call) (here : K.Call) (rest : List K.Call) (x : Trade) → trade_in K w here ≡ some x →
+    trades : (w : Taken) (n : ℕ) (before : List K.Call) (here : K.Call) (rest : List K.Call) (x : Trade) → trade_in K w here ≡ Some x →
         All (λ c. K.deletes n c ≡ false) before → (y : Trade) × (fate_of K w n (before ++ (here ∷ rest)) ≡ ended (traded y))
     trades w n [] here rest x t d = (x, of-first w n [] here rest x t tt tt)
     trades w n (c ∷ l) here rest x t d = traded-by w n (fate_of K w n (l ++ (here ∷ rest))) c (trade_in K w c) d.0 refl (trades w n l here rest x t d.1)

@@ -1,13 +1,14 @@
 -- The claim about a list of calls: every order's fate, and the log. Assumes nothing.
 use Prim.Native.Nat.{ℕ, suc, ◌+◌, ◌≤◌, ◌<◌}
 use native.Mathlib.Omega.{arith}
-use mathlib.Core.Bool.{Bool, true, false, cond}
+use mathlib.Core.Bool.{Bool}
 use mathlib.Core.Path.{◌≡◌, refl, ◌∙◌, sym, ap, ap₂, subst}
 use mathlib.Core.List.{List, [], ◌∷◌, ◌++◌, map, append-nil, append_assoc, map-append}
-use mathlib.Core.Option.{Option, none, some}
-use lib.ListN.{length, get_elem?, length-append, length-map}
-use lib.Dec.{ltb}
-use borrow.Author.Tests.{ltb-true, ltb-false, lt-ltb, le-ltb}
+use Rattle.std.specs.declared.option.Option.{Option}
+use Rattle.std.specs.declared.option.Option.TheVariants.{None, Some}
+use lib.ListN.{length, length-append, length-map}
+use Rattle.std.specs.Prelude.{slice_get}
+use Rattle.std.proofs.lemmas.Option.{slice_get_within}
 use Rattle.lists.specs.Lists.{gather, each, given, All}
 use Rattle.lists.proofs.Each.{length-each, AllFrom, all_append, all-at, all-each, all_map, each_all}
 use Rattle.market.specs.declared.quote.Quote.{Quote}
@@ -16,21 +17,13 @@ use Rattle.orders.specs.Claim.{Calls, taken_in, row_from, how_many, Within, OneR
 use Rattle.orders.proofs.Shape.{moved_by, row_now, Shape}
 use Rattle.orders.proofs.Fates.{Apart, fate-last, life}
 use Rattle.orders.proofs.OneRow.{no_rows, one_more}
-use Rattle.orders.proofs.Within.{at_low, at_left, at_right, at_map, within-left, within-right, within-turn, how-many-append, how-many-turn}
+use Rattle.orders.proofs.Within.{at_left, at_right, at_map, within-left, within-right, within-turn, how-many-append, how-many-turn}
 
 -- `after` starts with no orders, and each call has its effect
 pub record Runs (K : Calls) (takes : List K.Call → K.Call → List Taken) (after : List K.Call → Orders) : Type 0 where
   pub apart : Apart K
   pub starts : after [] ≡ no_orders
   pub shape : (past : List K.Call) (c : K.Call) → Shape K (after past) c (takes past c) (after (past ++ (c ∷ [])))
-
--- a test on a number, taken by what it says
-by-ltb : (m n : ℕ) (P : Bool → Type 0) → (m < n → P true) → (n ≤ m → P false) → P (ltb m n)
-by-ltb m n P p q = go (ltb m n) refl
-  where
-    go : (b : Bool) → ltb m n ≡ b → P b
-    go true e = p (ltb-true m n e)
-    go false e = q (ltb-false m n e)
 
 -- what holds of no calls, and of one call more, holds of all
 grow : {A : Type 0} (P : List A → Type 0) → P [] → ((cs : List A) (c : A) → P cs → P (cs ++ (c ∷ []))) → (cs : List A) → P cs
@@ -49,9 +42,7 @@ module _ (K : Calls) (takes : List K.Call → K.Call → List Taken) (after : Li
 
   count-one : (past : List K.Call) (c : K.Call) → count (past ++ (c ∷ [])) ≡ count past + length (books_of K c (after past).waiting)
   count-one past c =
-      ap length (R.shape past c).booked
-      ∙ length-append (each (moved_by K c) 0 (after past).booked) (map fresh (books_of K c (after past).waiting))
-      ∙ ap₂ (λ x y. x + y) (length-each (moved_by K c) 0 (after past).booked) (length-map (books_of K c (after past).waiting) fresh)
+      grind (arith, (R.shape past c).booked, length-append, length-each (moved_by K c) 0 (after past).booked, length-map (books_of K c (after past).waiting) fresh)
 
   count-more : (past cs : List K.Call) → count past ≤ count (past ++ cs)
   count-more past [] = omega (arith, ap count (append-nil past))
@@ -61,19 +52,15 @@ module _ (K : Calls) (takes : List K.Call → K.Call → List Taken) (after : Li
   since-old past [] c n h k = absurd (omega (arith, ap count (append-nil past)))
   since-old past (d ∷ cs) c n h k =
       let q = past ++ (d ∷ []) in
-      by-ltb n (count q) (λ b. cond b (cs ++ (c ∷ [])) (since_from K takes after q (cs ++ (c ∷ [])) n) ≡ cond b cs (since_from K takes after q cs n) ++ (c ∷ []))
-      (λ p. refl)
-      (λ p. since-old q cs c n p (omega (arith, ap count (append_assoc past (d ∷ []) cs))))
+      grind (arith, ap count (append_assoc past (d ∷ []) cs), since-old q cs c n)
 
   since-new : (past cs : List K.Call) (c : K.Call) (n : ℕ) (rest : List K.Call) → count (past ++ cs) ≤ n → n < count ((past ++ cs) ++ (c ∷ [])) → since_from K takes after past (cs ++ (c ∷ rest)) n ≡ rest
   since-new past [] c n rest h k =
-      ap (λ b. cond b rest (since_from K takes after (past ++ (c ∷ [])) rest n))
-      (lt-ltb n (count (past ++ (c ∷ []))) (omega (arith, ap (λ l. count (l ++ (c ∷ []))) (append-nil past))))
+      grind (arith, ap (λ l. count (l ++ (c ∷ []))) (append-nil past))
   since-new past (d ∷ cs) c n rest h k =
       let q = past ++ (d ∷ []) in
       let e = append_assoc past (d ∷ []) cs in
-      ap (λ b. cond b (cs ++ (c ∷ rest)) (since_from K takes after q (cs ++ (c ∷ rest)) n)) (le-ltb n (count q) (omega (arith, count-more q cs, ap count e)))
-      ∙ since-new q cs c n rest (omega (arith, ap count e)) (omega (arith, ap (λ l. count (l ++ (c ∷ []))) e))
+      grind (arith, count-more q cs, ap count e, ap (λ l. count (l ++ (c ∷ []))) e, since-new q cs c n rest)
 
   -- ---- the fates: an entry's fate is that of its order over the calls since its booking
 
@@ -142,29 +129,29 @@ module _ (K : Calls) (takes : List K.Call → K.Call → List Taken) (after : Li
       ∙ ap₂ (λ x y. x ++ y) (moved-taken c 0 (after past).booked) (fresh-taken (books_of K c (after past).waiting))
 
   -- an order keeps its number
-  numbered : (past cs : List K.Call) (n : ℕ) (w : Taken) → get_elem? (taken_in (after past).booked) n ≡ some w →
-      get_elem? (taken_in (after (past ++ cs)).booked) n ≡ some w
+  numbered : (past cs : List K.Call) (n : ℕ) (w : Taken) → slice_get (taken_in (after past).booked) n ≡ Some w →
+      slice_get (taken_in (after (past ++ cs)).booked) n ≡ Some w
   numbered past [] n w h = rw (append-nil past) h
   numbered past (c ∷ cs) n w h =
       rw (sym (append_assoc past (c ∷ []) cs))
       (numbered (past ++ (c ∷ [])) cs n w (rw (booking past c) (at_left (taken_in (after past).booked) (books_of K c (after past).waiting) n w h)))
 
   -- an order that waits waits on until an unrefused check
-  waiting-on : (past rest : List K.Call) (w : Taken) → Within w (after past).waiting → All (λ d. K.tradable d ≡ none) rest → Within w (after (past ++ rest)).waiting
+  waiting-on : (past rest : List K.Call) (w : Taken) → Within w (after past).waiting → All (λ d. K.tradable d ≡ None) rest → Within w (after (past ++ rest)).waiting
   waiting-on past [] w h a = rw (append-nil past) h
   waiting-on past (d ∷ rest) w h a =
       rw (sym (append_assoc past (d ∷ []) rest))
       (waiting-on (past ++ (d ∷ [])) rest w
       (rw ((R.shape past d).waiting, a.0) (within-left (after past).waiting (takes past d) w h)) a.1)
 
-  waits : (past : List K.Call) (c : K.Call) (rest : List K.Call) (w : Taken) → Within w (takes past c) → All (λ d. K.tradable d ≡ none) rest → Within w (after (past ++ (c ∷ rest))).waiting
+  waits : (past : List K.Call) (c : K.Call) (rest : List K.Call) (w : Taken) → Within w (takes past c) → All (λ d. K.tradable d ≡ None) rest → Within w (after (past ++ (c ∷ rest))).waiting
   waits past c rest w h a =
       rw (sym (append_assoc past (c ∷ []) rest))
       (waiting-on (past ++ (c ∷ [])) rest w (rw (R.shape past c).waiting (within-right (wait_on K c (after past).waiting) (takes past c) w h)) a)
 
   -- an unrefused check books each order that waits
-  books : (past : List K.Call) (d : K.Call) (t : List Quote) (w : Taken) → Within w (after past).waiting → K.tradable d ≡ some t →
-      (n : ℕ) × BookedBy K takes after past d n × (get_elem? (taken_in (after (past ++ (d ∷ []))).booked) n ≡ some w)
+  books : (past : List K.Call) (d : K.Call) (t : List Quote) (w : Taken) → Within w (after past).waiting → K.tradable d ≡ Some t →
+      (n : ℕ) × BookedBy K takes after past d n × (slice_get (taken_in (after (past ++ (d ∷ []))).booked) n ≡ Some w)
   books past d t w h s =
       let old = taken_in (after past).booked in
       let new = books_of K d (after past).waiting in
@@ -172,15 +159,14 @@ module _ (K : Calls) (takes : List K.Call → K.Call → List Taken) (after : Li
       let long : length old ≡ count past = length-map (after past).booked (λ e. e.taken) in
       let n = count past + i.0 in (
         n,
-        record { not_yet = omega arith; now-is = omega (arith, count-one past d, at_low new i.0 w i.1) },
+        record { not_yet = omega arith; now-is = omega (arith, count-one past d, slice_get_within new i.0 w i.1) },
         rw (booking past d) (at_right old new i.0 n w (omega (arith, long)) i.1),
       )
 
   -- ---- each order taken waits or is booked
 
   taken-by : (p : Taken → Bool) (T : Option (List Quote)) (w : List Taken) → how_many p (given T w (λ t. [])) + how_many p (given T [] (λ t. in_turn w)) ≡ how_many p w
-  taken-by p none w = omega arith
-  taken-by p (some t) w = omega (arith, how-many-turn p w)
+  taken-by p T w = grind (arith, how-many-turn p w)
 
   taken : (p : Taken → Bool) (past cs : List K.Call) → how_many p (after past).waiting + how_many p (taken_in (after past).booked) + how_many p (taken_over K takes after past cs) ≡ how_many p (after (past ++ cs)).waiting + how_many p (taken_in (after (past ++ cs)).booked)
   taken p past [] = rw (append-nil past) (omega arith)
@@ -207,14 +193,14 @@ module _ (K : Calls) (takes : List K.Call → K.Call → List Taken) (after : Li
       let here : since_from K takes after [] cs n ≡ rest = ap (λ l. since_from K takes after [] l n) e ∙ since-new [] past c n rest b.not_yet b.now-is in
       (r.0.taken, record { entry = r.0; there = r.1; its-order = refl; life = life K R.apart r.0 n rest (r.2 ∙ ap (fate_of K r.0.taken n) here) })
 
-  lives : (cs past : List K.Call) (d : K.Call) (rest : List K.Call) (t : List Quote) (w : Taken) → cs ≡ past ++ (d ∷ rest) → Within w (after past).waiting → K.tradable d ≡ some t →
+  lives : (cs past : List K.Call) (d : K.Call) (rest : List K.Call) (t : List Quote) (w : Taken) → cs ≡ past ++ (d ∷ rest) → Within w (after past).waiting → K.tradable d ≡ Some t →
       (n : ℕ) × BookedBy K takes after past d n × Placed K takes after cs n w rest
   lives cs past d rest t w e h s =
       let b = books past d t w h s in
       let f = (fates cs past d rest b.0 e b.1).1 in
-      let is : get_elem? (taken_in (after cs).booked) b.0 ≡ some w =
-      ap (λ l. get_elem? (taken_in (after l).booked) b.0) (e ∙ sym (append_assoc past (d ∷ []) rest)) ∙ numbered (past ++ (d ∷ [])) rest b.0 w b.2 in
-      let same : some f.entry.taken ≡ some w = sym (at_map (λ e. e.taken) (after cs).booked b.0 f.entry f.there) ∙ is in
+      let is : slice_get (taken_in (after cs).booked) b.0 ≡ Some w =
+      ap (λ l. slice_get (taken_in (after l).booked) b.0) (e ∙ sym (append_assoc past (d ∷ []) rest)) ∙ numbered (past ++ (d ∷ [])) rest b.0 w b.2 in
+      let same : Some f.entry.taken ≡ Some w = sym (at_map (λ e. e.taken) (after cs).booked b.0 f.entry f.there) ∙ is in
       (b.0, b.1, record { entry = f.entry; there = f.there; its-order = cc; life = f.life })
 
   pub lived : (cs : List K.Call) → Lived K takes after cs

@@ -4,8 +4,11 @@ use native.Mathlib.Omega.{arith}
 use mathlib.Core.Bool.{Bool, true, false, cond}
 use mathlib.Core.Path.{◌≡◌, refl, ◌∙◌, sym, ap, ap₂, subst}
 use mathlib.Core.List.{List, [], ◌∷◌, ◌++◌, map}
-use mathlib.Core.Option.{Option, none, some}
-use lib.ListN.{length, get_elem?, length-append}
+use Rattle.std.specs.declared.option.Option.{Option}
+use Rattle.std.specs.declared.option.Option.TheVariants.{None, Some}
+use lib.ListN.{length, length-append}
+use Rattle.std.specs.Prelude.{slice_get}
+use Rattle.std.proofs.lemmas.Option.{none-some, same_Some}
 use Rattle.lists.specs.Lists.{gather, each}
 use Rattle.market.specs.declared.trade.Trade.{Trade}
 use Rattle.orders.specs.Orders.{Taken, traded, deleted, Fate, resting, ended, Entry, Orders, ended_by, trade_end, fresh}
@@ -20,9 +23,9 @@ no_rows =
     record {
       who = [];
       each_row = refl;
-      its-order = λ k n e. absurd (let z : ◌≡◌ {A = ℕ} 0 1 = cc in omega arith);
-      no-two = λ j k n a b. absurd (let z : ◌≡◌ {A = ℕ} 0 1 = cc in omega arith);
-      none-missing = λ n x t. absurd (let h = t.there in let z : ◌≡◌ {A = ℕ} 0 1 = cc in omega arith);
+      its-order = λ k n e. grind arith;
+      no-two = λ j k n a b. grind arith;
+      none-missing = λ n x t. absurd (none-some t.entry t.there);
     }
 
 -- the number i, once for each row
@@ -41,53 +44,46 @@ module _ (K : Calls) (c : K.Call) where
   -- an order that rested and trades in the call
   record Trades (l : List Entry) (n : ℕ) (x : Trade) : Type 0 where
     pub entry : Entry
-    pub there : get_elem? l n ≡ some entry
+    pub there : slice_get l n ≡ Some entry
     pub rested : entry.fate ≡ resting
-    pub row : trade_in K entry.taken c ≡ some x
+    pub row : trade_in K entry.taken c ≡ Some x
 
   -- ---- one entry: it has a row where it rested and trades
 
   as_many : (f : Fate) (x : Option Trade) (i : ℕ) → length (beside i (row_from f x)) ≡ length (row_from f x)
-  as_many resting none i = refl
-  as_many resting (some x) i = refl
+  as_many resting None i = refl
+  as_many resting (Some x) i = refl
   as_many (ended y) x i = refl
 
-  one-row : (f : Fate) (x : Option Trade) (i k n : ℕ) → get_elem? (beside i (row_from f x)) k ≡ some n →
-      (y : Trade) × (f ≡ resting) × (x ≡ some y) × (get_elem? (row_from f x) k ≡ some y) × (i ≡ n) × (k ≡ 0)
-  one-row resting none i k n e = absurd (let z : ◌≡◌ {A = ℕ} 0 1 = cc in omega arith)
-  one-row resting (some x) i zero n e = (x, refl, refl, refl, cc, refl)
-  one-row resting (some x) i (suc k) n e = absurd (let z : ◌≡◌ {A = ℕ} 0 1 = cc in omega arith)
-  one-row (ended y) x i k n e = absurd (let z : ◌≡◌ {A = ℕ} 0 1 = cc in omega arith)
+  one-row : (f : Fate) (x : Option Trade) (i k n : ℕ) → slice_get (beside i (row_from f x)) k ≡ Some n →
+      (y : Trade) × (f ≡ resting) × (x ≡ Some y) × (slice_get (row_from f x) k ≡ Some y) × (i ≡ n) × (k ≡ 0)
+  one-row resting None i k n e = grind arith
+  one-row resting (Some x) i zero n e = (x, refl, refl, refl, same_Some i n e, refl)
+  one-row resting (Some x) i (suc k) n e = grind arith
+  one-row (ended y) x i k n e = grind arith
 
-  has-row : (f : Fate) (x : Option Trade) (y : Trade) (i : ℕ) → f ≡ resting → x ≡ some y → Within i (beside i (row_from f x))
-  has-row resting none y i e t = absurd (let z : ◌≡◌ {A = ℕ} 0 1 = cc in omega arith)
-  has-row resting (some x) y i e t = (0, refl)
-  has-row (ended z) x y i e t = absurd (let z : ◌≡◌ {A = ℕ} 0 1 = cc in omega arith)
+  has-row : (f : Fate) (x : Option Trade) (y : Trade) (i : ℕ) → f ≡ resting → x ≡ Some y → Within i (beside i (row_from f x))
+  has-row resting None y i e t = absurd (none-some y t)
+  has-row resting (Some x) y i e t = (0, refl)
+  has-row (ended z) x y i e t = grind arith
 
   -- ---- all entries
 
   as-many-all : (i : ℕ) (l : List Entry) → length (who_from i l) ≡ length (rows_from i l)
   as-many-all i [] = refl
   as-many-all i (e ∷ l) =
-      let r = row_now K c i e in
-      omega (
-        arith,
-        length-append (beside i r) (who_from (suc i) l),
-        length-append r (rows_from (suc i) l),
-        as_many e.fate (trade_in K e.taken c) i,
-        as-many-all (suc i) l,
-      )
+      grind (arith, length-append, as_many e.fate (trade_in K e.taken c) i, as-many-all (suc i) l)
 
   -- the k-th number is that of the k-th row's order, which rested; numbers start at i
   record Found (i : ℕ) (l : List Entry) (k n : ℕ) : Type 0 where
     pub at : ℕ
     pub number_is : i + at ≡ n
     pub row : Trade
-    pub row-there : get_elem? (rows_from i l) k ≡ some row
+    pub row-there : slice_get (rows_from i l) k ≡ Some row
     pub trades : Trades l at row
 
-  found : (i : ℕ) (l : List Entry) (k n : ℕ) → get_elem? (who_from i l) k ≡ some n → Found i l k n
-  found i [] k n e = absurd (let z : ◌≡◌ {A = ℕ} 0 1 = cc in omega arith)
+  found : (i : ℕ) (l : List Entry) (k n : ℕ) → slice_get (who_from i l) k ≡ Some n → Found i l k n
+  found i [] k n e = grind arith
   found i (e ∷ l) k n h =
       let r = row_now K c i e in
       let m = as_many e.fate (trade_in K e.taken c) i in
@@ -111,12 +107,12 @@ module _ (K : Calls) (c : K.Call) where
         trades = record { entry = f.trades.entry; there = f.trades.there; rested = f.trades.rested; row = f.trades.row };
       })
 
-  found-low : (i : ℕ) (l : List Entry) (k n : ℕ) → get_elem? (who_from i l) k ≡ some n → i ≤ n
+  found-low : (i : ℕ) (l : List Entry) (k n : ℕ) → slice_get (who_from i l) k ≡ Some n → i ≤ n
   found-low i l k n h = let f = found i l k n h in omega (arith, f.number_is)
 
   -- no number twice: they ascend
-  no-two-from : (i : ℕ) (l : List Entry) (j k n : ℕ) → get_elem? (who_from i l) j ≡ some n → get_elem? (who_from i l) k ≡ some n → j ≡ k
-  no-two-from i [] j k n a b = absurd (let z : ◌≡◌ {A = ℕ} 0 1 = cc in omega arith)
+  no-two-from : (i : ℕ) (l : List Entry) (j k n : ℕ) → slice_get (who_from i l) j ≡ Some n → slice_get (who_from i l) k ≡ Some n → j ≡ k
+  no-two-from i [] j k n a b = grind arith
   no-two-from i (e ∷ l) j k n a b =
       let r = row_now K c i e in
       let x₀ = trade_in K e.taken c in
@@ -132,9 +128,9 @@ module _ (K : Calls) (c : K.Call) where
 
   -- each that rested and trades is among them
   among : (i : ℕ) (l : List Entry) (at n : ℕ) (x : Trade) → i + at ≡ n → Trades l at x → Within n (who_from i l)
-  among i [] at n x s t = absurd (let h = t.there in let z : ◌≡◌ {A = ℕ} 0 1 = cc in omega arith)
+  among i [] at n x s t = absurd (none-some t.entry t.there)
   among i (e ∷ l) zero n x s t =
-      let same : e ≡ t.entry = let h = t.there in cc in
+      let same = same_Some e t.entry t.there in
       let w = has-row e.fate (trade_in K e.taken c) x i (ap (λ d. d.fate) same ∙ t.rested) (ap (λ d. trade_in K d.taken c) same ∙ t.row) in
       rw (sym s) (rw (native-zero i) (within-left (beside i (row_now K c i e)) (who_from (suc i) l) i w))
     where
@@ -149,9 +145,6 @@ module _ (K : Calls) (c : K.Call) where
 from_zero : (n : ℕ) → 0 + n ≡ n
 from_zero n = omega arith
 
-same_here : {A : Type 0} (o : Option A) (a b : A) → o ≡ some a → o ≡ some b → a ≡ b
-same_here o a b x y = let z : some a ≡ some b = sym x ∙ y in cc
-
 module _ (K : Calls) (apart : Apart K) (L M : Orders) (c : K.Call) (new : List Taken) (s : Shape K L c new M) (h : OneRowEach L.trades L.booked) where
   abbrev moved : List Entry
   moved = each (moved_by K c) 0 L.booked
@@ -163,7 +156,7 @@ module _ (K : Calls) (apart : Apart K) (L M : Orders) (c : K.Call) (new : List T
   later = who_from K c 0 L.booked
 
   -- an entry after the call
-  at_moved : (n : ℕ) (e : Entry) → get_elem? L.booked n ≡ some e → get_elem? M.booked n ≡ some (moved_by K c n e)
+  at_moved : (n : ℕ) (e : Entry) → slice_get L.booked n ≡ Some e → slice_get M.booked n ≡ Some (moved_by K c n e)
   at_moved n e p = rw s.booked (at_left moved booked-now n (moved_by K c n e) (at_each (moved_by K c) 0 n n L.booked e (from_zero n) p))
 
   -- one that has traded stays so
@@ -182,18 +175,16 @@ module _ (K : Calls) (apart : Apart K) (L M : Orders) (c : K.Call) (new : List T
       record {
         entry = moved_by K c n t.entry;
         there = at_moved n t.entry t.there;
-        has-traded =
-            ap (ended_by (end_in K w n c)) t.rested
-            ∙ ap₂ (λ b y. ended_by (cond b (some deleted) (trade_end y)) resting) (no-deletion K apart w n c x t.row) t.row;
+        has-traded = grind (arith, t.rested, t.row, no-deletion K apart w n c x t.row);
       }
 
   -- and no other has
-  before-or-now : (f : Fate) (b : Bool) (y : Option Trade) (x : Trade) (P : Type 0) → ended_by (cond b (some deleted) (trade_end y)) f ≡ ended (traded x) →
-      (f ≡ ended (traded x) → P) → (f ≡ resting → y ≡ some x → P) → P
-  before-or-now (ended z) b y x P e old now = old (sym (ended-stays (cond b (some deleted) (trade_end y)) z) ∙ e)
-  before-or-now resting true y x P e old now = absurd (let z : ◌≡◌ {A = ℕ} 0 1 = cc in omega arith)
-  before-or-now resting false none x P e old now = absurd (let z : ◌≡◌ {A = ℕ} 0 1 = cc in omega arith)
-  before-or-now resting false (some y) x P e old now = now refl cc
+  before-or-now : (f : Fate) (b : Bool) (y : Option Trade) (x : Trade) (P : Type 0) → ended_by (cond b (Some deleted) (trade_end y)) f ≡ ended (traded x) →
+      (f ≡ ended (traded x) → P) → (f ≡ resting → y ≡ Some x → P) → P
+  before-or-now (ended z) b y x P e old now = old (sym (ended-stays (cond b (Some deleted) (trade_end y)) z) ∙ e)
+  before-or-now resting true y x P e old now = grind arith
+  before-or-now resting false None x P e old now = grind arith
+  before-or-now resting false (Some y) x P e old now = now refl (grind arith)
 
   missing-none : (n : ℕ) (x : Trade) → TradedAs M.booked n x → Within n (h.who ++ later)
   missing-none n x t =
@@ -206,19 +197,19 @@ module _ (K : Calls) (apart : Apart K) (L M : Orders) (c : K.Call) (new : List T
       (λ r y. within-right h.who later n (among K c 0 L.booked n n x (from_zero n) (record { entry = e; there = o.1; rested = r; row = y }))))
       (λ k q p.
       let o = at-mapped fresh (books_of K c L.waiting) k t.entry p in
-      absurd (let g = ap (λ d. d.fate) o.1 ∙ t.has-traded in let z : ◌≡◌ {A = ℕ} 0 1 = cc in omega arith))
+      let g = ap (λ d. d.fate) o.1 ∙ t.has-traded in grind arith)
 
   -- an order has one row: those of before have ended, those of now rested
-  apart-rows : (j k n : ℕ) → get_elem? h.who j ≡ some n → get_elem? later k ≡ some n → ⊥
+  apart-rows : (j k n : ℕ) → slice_get h.who j ≡ Some n → slice_get later k ≡ Some n → ⊥
   apart-rows j k n a b =
       let old = (h.its-order j n a).2 in
       let f = found K c 0 L.booked k n b in
-      let at : get_elem? L.booked n ≡ some f.trades.entry = ap (get_elem? L.booked) (sym f.number_is ∙ from_zero f.at) ∙ f.trades.there in
-      let same = same_here (get_elem? L.booked n) old.entry f.trades.entry old.there at in
+      let at : slice_get L.booked n ≡ Some f.trades.entry = ap (slice_get L.booked) (sym f.number_is ∙ from_zero f.at) ∙ f.trades.there in
+      let same = same_Some old.entry f.trades.entry (sym old.there ∙ at) in
       let g : ended (traded (h.its-order j n a).0) ≡ resting = sym old.has-traded ∙ ap (λ d. d.fate) same ∙ f.trades.rested in
-      let z : ◌≡◌ {A = ℕ} 0 1 = cc in omega arith
+      grind arith
 
-  two_none : (j k n : ℕ) → get_elem? (h.who ++ later) j ≡ some n → get_elem? (h.who ++ later) k ≡ some n → j ≡ k
+  two_none : (j k n : ℕ) → slice_get (h.who ++ later) j ≡ Some n → slice_get (h.who ++ later) k ≡ Some n → j ≡ k
   two_none j k n a b =
       at-either h.who later j n (j ≡ k) a
       (λ x.
@@ -230,9 +221,9 @@ module _ (K : Calls) (apart : Apart K) (L M : Orders) (c : K.Call) (new : List T
       (λ y. absurd (apart-rows k p n y x))
       (λ q t y. omega (arith, u, t, no-two-from K c 0 L.booked p q n x y)))
 
-  order-of : (k n : ℕ) → get_elem? (h.who ++ later) k ≡ some n → (x : Trade) × (get_elem? M.trades k ≡ some x) × TradedAs M.booked n x
+  order-of : (k n : ℕ) → slice_get (h.who ++ later) k ≡ Some n → (x : Trade) × (slice_get M.trades k ≡ Some x) × TradedAs M.booked n x
   order-of k n a =
-      at-either h.who later k n ((x : Trade) × (get_elem? M.trades k ≡ some x) × TradedAs M.booked n x) a
+      at-either h.who later k n ((x : Trade) × (slice_get M.trades k ≡ Some x) × TradedAs M.booked n x) a
       (λ p.
       let o = h.its-order k n p in
       (o.0, rw s.trades (at_left L.trades (rows_from K c 0 L.booked) k o.0 o.1), stays-traded n o.0 o.2))

@@ -1,16 +1,16 @@
 -- What the claim refuses: a ledger that never books has it only where nothing is taken; and the claim leaves no choice of what waits and of what is booked under
 -- which number. Assumes nothing.
-use mathlib.Core.Path.{◌≡◌, refl, ◌∙◌, sym, ap, ap₂, subst}
+use native.Mathlib.Omega.{arith}
+use mathlib.Core.Path.{◌≡◌, ◌∙◌, sym, ap, ap₂, subst}
 use mathlib.Core.List.{List, [], ◌∷◌, ◌++◌, append-nil, append_assoc}
-use mathlib.Core.Option.{Option, none, some}
+use Rattle.std.specs.declared.option.Option.{Option}
 use Rattle.lists.specs.Lists.{given}
 use Rattle.market.specs.declared.quote.Quote.{Quote}
 use Rattle.orders.specs.Orders.{Taken, Orders, no_orders}
 use Rattle.orders.specs.Claim.{Calls, taken_in, wait_on, books_of, Lived}
 
 no-wait : (T : Option (List Quote)) (l : List Taken) → given T [] (λ t. []) ++ l ≡ l
-no-wait none l = refl
-no-wait (some t) l = refl
+no-wait T l = grind arith
 
 -- a ledger that never books
 pub not-vacuous : (K : Calls) (takes : List K.Call → K.Call → List Taken) → Lived K takes (λ cs. no_orders) [] → (past : List K.Call) (c : K.Call) → takes past c ≡ []

@@ -1,22 +1,21 @@
 -- The rows of one call: each is the trade of an order that an earlier call had booked. From the claim's own words. Assumes nothing.
-use Prim.Native.Nat.{ℕ, zero, suc}
+use Prim.Native.Nat.{ℕ, suc}
 use native.Mathlib.Omega.{arith}
 use mathlib.Core.Path.{◌≡◌, refl, ◌∙◌, sym, ap}
 use mathlib.Core.List.{List, [], ◌∷◌, ◌++◌, append-nil, append_assoc}
-use mathlib.Core.Option.{Option, none, some}
-use lib.ListN.{get_elem?}
+use Rattle.std.specs.declared.option.Option.{Option}
+use Rattle.std.specs.declared.option.Option.TheVariants.{Some}
+use Rattle.std.specs.Prelude.{slice_get}
+use Rattle.std.proofs.lemmas.Option.{none-some}
 use Rattle.lists.specs.Lists.{gather, each}
 use Rattle.market.specs.declared.trade.Trade.{Trade}
-use Rattle.orders.specs.Orders.{Taken, Fate, resting, ended, Entry, Orders}
+use Rattle.orders.specs.Orders.{Taken, Fate, Entry, Orders}
 use Rattle.orders.specs.Claim.{Calls, row_from, Within, trade_in, fate_of, since_from, rows_in, log_of, TradeOfBooked}
 use Rattle.orders.proofs.Within.{at-either}
 
 -- a row of an order is its trade
-row_is : (f : Fate) (t : Option Trade) (k : ℕ) (x : Trade) → get_elem? (row_from f t) k ≡ some x → t ≡ some x
-row_is resting none k x e = absurd (let z : ◌≡◌ {A = ℕ} 0 1 = cc in omega arith)
-row_is resting (some y) zero x e = e
-row_is resting (some y) (suc k) x e = absurd (let z : ◌≡◌ {A = ℕ} 0 1 = cc in omega arith)
-row_is (ended y) t k x e = absurd (let z : ◌≡◌ {A = ℕ} 0 1 = cc in omega arith)
+row_is : (f : Fate) (t : Option Trade) (k : ℕ) (x : Trade) → slice_get (row_from f t) k ≡ Some x → t ≡ Some x
+row_is f t k x e = grind arith
 
 module _ (K : Calls) (takes : List K.Call → K.Call → List Taken) (after : List K.Call → Orders) where
   -- the rows of a last call come last
@@ -32,11 +31,11 @@ module _ (K : Calls) (takes : List K.Call → K.Call → List Taken) (after : Li
     row_at n e = row_from (fate_of K e.taken n (since_from K takes after [] past n)) (trade_in K e.taken c)
 
     -- from the place i on
-    from : (i k : ℕ) (x : Trade) (l : List Entry) → get_elem? (gather (λ r. r) (each row_at i l)) k ≡ some x →
-        (n : ℕ) × (e : Entry) × (get_elem? l n ≡ some e) × (trade_in K e.taken c ≡ some x)
-    from i k x [] e = absurd (let z : ◌≡◌ {A = ℕ} 0 1 = cc in omega arith)
+    from : (i k : ℕ) (x : Trade) (l : List Entry) → slice_get (gather (λ r. r) (each row_at i l)) k ≡ Some x →
+        (n : ℕ) × (e : Entry) × (slice_get l n ≡ Some e) × (trade_in K e.taken c ≡ Some x)
+    from i k x [] e = absurd (none-some x e)
     from i k x (d ∷ l) e =
-        at-either (row_at i d) (gather (λ r. r) (each row_at (suc i) l)) k x ((n : ℕ) × (y : Entry) × (get_elem? (d ∷ l) n ≡ some y) × (trade_in K y.taken c ≡ some x)) e
+        at-either (row_at i d) (gather (λ r. r) (each row_at (suc i) l)) k x ((n : ℕ) × (y : Entry) × (slice_get (d ∷ l) n ≡ Some y) × (trade_in K y.taken c ≡ Some x)) e
         (λ p. (0, d, refl, row_is (fate_of K d.taken i (since_from K takes after [] past i)) (trade_in K d.taken c) k x p))
         (λ j s p. let r = from (suc i) j x l p in (suc r.0, r.1, r.2, r.3))
 

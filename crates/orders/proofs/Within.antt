@@ -1,11 +1,13 @@
 -- Where an element stands in lists that are joined, mapped or put in turn, and how many rows are of a sort. Assumes nothing.
-use Prim.Native.Nat.{ℕ, zero, suc, ◌+◌, ◌<◌}
+use Prim.Native.Nat.{ℕ, zero, suc, ◌+◌}
 use native.Mathlib.Omega.{arith}
 use mathlib.Core.Bool.{Bool, true, false, cond, beq}
-use mathlib.Core.Path.{◌≡◌, refl, ◌∙◌, ap, ap₂}
+use mathlib.Core.Path.{◌≡◌, refl, ◌∙◌, ap}
 use mathlib.Core.List.{List, [], ◌∷◌, ◌++◌, map}
-use mathlib.Core.Option.{some}
-use lib.ListN.{length, get_elem?, length-append}
+use Rattle.std.specs.declared.option.Option.TheVariants.{Some}
+use lib.ListN.{length, length-append}
+use Rattle.std.specs.Prelude.{slice_get, option_map}
+use Rattle.std.proofs.lemmas.Option.{none-some, same_Some, slice_get-map}
 use Rattle.lists.specs.Lists.{keep, each}
 use Rattle.lists.proofs.Keep.{keep_append}
 use Rattle.market.specs.Orders.{is_sell}
@@ -13,24 +15,19 @@ use Rattle.orders.specs.Orders.{Taken, side_by, in_turn}
 use Rattle.orders.specs.Claim.{Within, how_many}
 
 module _ {A : Type 0} where
-  pub at_low : (l : List A) (k : ℕ) (a : A) → get_elem? l k ≡ some a → k < length l
-  at_low [] k a e = absurd (let z : ◌≡◌ {A = ℕ} 0 1 = cc in omega arith)
-  at_low (b ∷ l) zero a e = omega arith
-  at_low (b ∷ l) (suc k) a e = omega (arith, at_low l k a e)
-
-  pub at_left : (l m : List A) (k : ℕ) (a : A) → get_elem? l k ≡ some a → get_elem? (l ++ m) k ≡ some a
-  at_left [] m k a e = absurd (let z : ◌≡◌ {A = ℕ} 0 1 = cc in omega arith)
+  pub at_left : (l m : List A) (k : ℕ) (a : A) → slice_get l k ≡ Some a → slice_get (l ++ m) k ≡ Some a
+  at_left [] m k a e = grind arith
   at_left (b ∷ l) m zero a e = e
   at_left (b ∷ l) m (suc k) a e = at_left l m k a e
 
-  pub at_right : (l m : List A) (k n : ℕ) (a : A) → length l + k ≡ n → get_elem? m k ≡ some a → get_elem? (l ++ m) n ≡ some a
-  at_right [] m k n a h e = ap (get_elem? m) (omega arith) ∙ e
-  at_right (b ∷ l) m k zero a h e = absurd (omega arith)
+  pub at_right : (l m : List A) (k n : ℕ) (a : A) → length l + k ≡ n → slice_get m k ≡ Some a → slice_get (l ++ m) n ≡ Some a
+  at_right [] m k n a h e = grind arith
+  at_right (b ∷ l) m k zero a h e = grind arith
   at_right (b ∷ l) m k (suc n) a h e = at_right l m k n a (omega arith) e
 
   -- an element of two lists that are joined stands in the one or in the other
-  pub at-either : (l m : List A) (k : ℕ) (a : A) (P : Type 0) → get_elem? (l ++ m) k ≡ some a → (get_elem? l k ≡ some a → P) →
-      ((j : ℕ) → length l + j ≡ k → get_elem? m j ≡ some a → P) → P
+  pub at-either : (l m : List A) (k : ℕ) (a : A) (P : Type 0) → slice_get (l ++ m) k ≡ Some a → (slice_get l k ≡ Some a → P) →
+      ((j : ℕ) → length l + j ≡ k → slice_get m j ≡ Some a → P) → P
   at-either [] m k a P e f g = g k (omega arith) e
   at-either (b ∷ l) m zero a P e f g = f e
   at-either (b ∷ l) m (suc k) a P e f g = at-either l m k a P e f (λ j s h. g j (omega (arith, s)) h)
@@ -42,43 +39,31 @@ module _ {A : Type 0} where
   within-right l m a h = (length l + h.0, at_right l m h.0 (length l + h.0) a refl h.1)
 
   -- what passes the test is kept
-  within-keep : (p : A → Bool) (a : A) → p a ≡ true → (l : List A) (k : ℕ) → get_elem? l k ≡ some a → Within a (keep p l)
-  within-keep p a t [] k e = absurd (let z : ◌≡◌ {A = ℕ} 0 1 = cc in omega arith)
-  within-keep p a t (b ∷ l) zero e =
-      let s : b ≡ a = cc in
-      rw (ap p s ∙ t) (0, e)
+  within-keep : (p : A → Bool) (a : A) → p a ≡ true → (l : List A) (k : ℕ) → slice_get l k ≡ Some a → Within a (keep p l)
+  within-keep p a t [] k e = grind arith
+  within-keep p a t (b ∷ l) zero e = rw (ap p (same_Some _ _ e) ∙ t) (0, e)
   within-keep p a t (b ∷ l) (suc k) e = by (p b) (within-keep p a t l k e)
     where
       by : (x : Bool) → Within a (keep p l) → Within a (cond x (b ∷ keep p l) (keep p l))
       by true h = (suc h.0, h.1)
       by false h = h
 
-pub at_map : {A B : Type 0} (f : A → B) (l : List A) (k : ℕ) (a : A) → get_elem? l k ≡ some a → get_elem? (map f l) k ≡ some (f a)
-at_map f [] k a e = absurd (let z : ◌≡◌ {A = ℕ} 0 1 = cc in omega arith)
-at_map f (b ∷ l) zero a e =
-    let s : b ≡ a = cc in
-    ap (λ x. some (f x)) s
-at_map f (b ∷ l) (suc k) a e = at_map f l k a e
+pub at_map : {A B : Type 0} (f : A → B) (l : List A) (k : ℕ) (a : A) → slice_get l k ≡ Some a → slice_get (map f l) k ≡ Some (f a)
+at_map f l k a e = slice_get-map f l k ∙ ap (option_map f) e
 
 -- an element of a list after a function of each element and its place, and the element that it was made of
-pub at_each : {A B : Type 0} (f : ℕ → A → B) (i k n : ℕ) (l : List A) (a : A) → i + k ≡ n → get_elem? l k ≡ some a → get_elem? (each f i l) k ≡ some (f n a)
-at_each f i k n [] a s e = absurd (let z : ◌≡◌ {A = ℕ} 0 1 = cc in omega arith)
-at_each f i zero n (b ∷ l) a s e =
-    let t : b ≡ a = cc in
-    let u : i ≡ n = omega arith in
-    ap₂ (λ m x. some (f m x)) u t
+pub at_each : {A B : Type 0} (f : ℕ → A → B) (i k n : ℕ) (l : List A) (a : A) → i + k ≡ n → slice_get l k ≡ Some a → slice_get (each f i l) k ≡ Some (f n a)
+at_each f i k n [] a s e = grind arith
+at_each f i zero n (b ∷ l) a s e = grind arith
 at_each f i (suc k) n (b ∷ l) a s e = at_each f (suc i) k n l a (omega arith) e
 
-pub each_at : {A B : Type 0} (f : ℕ → A → B) (i k n : ℕ) (l : List A) (b : B) → i + k ≡ n → get_elem? (each f i l) k ≡ some b → (a : A) × (get_elem? l k ≡ some a) × (b ≡ f n a)
-each_at f i k n [] b s e = absurd (let z : ◌≡◌ {A = ℕ} 0 1 = cc in omega arith)
-each_at f i zero n (a ∷ l) b s e =
-    let t : b ≡ f i a = cc in
-    let u : i ≡ n = omega arith in
-    (a, refl, t ∙ ap (λ m. f m a) u)
+pub each_at : {A B : Type 0} (f : ℕ → A → B) (i k n : ℕ) (l : List A) (b : B) → i + k ≡ n → slice_get (each f i l) k ≡ Some b → (a : A) × (slice_get l k ≡ Some a) × (b ≡ f n a)
+each_at f i k n [] b s e = absurd (none-some b e)
+each_at f i zero n (a ∷ l) b s e = (a, refl, grind arith)
 each_at f i (suc k) n (a ∷ l) b s e = each_at f (suc i) k n l b (omega arith) e
 
-pub at-mapped : {A B : Type 0} (f : A → B) (l : List A) (k : ℕ) (b : B) → get_elem? (map f l) k ≡ some b → (a : A) × (f a ≡ b)
-at-mapped f [] k b e = absurd (let z : ◌≡◌ {A = ℕ} 0 1 = cc in omega arith)
+pub at-mapped : {A B : Type 0} (f : A → B) (l : List A) (k : ℕ) (b : B) → slice_get (map f l) k ≡ Some b → (a : A) × (f a ≡ b)
+at-mapped f [] k b e = absurd (none-some b e)
 at-mapped f (a ∷ l) zero b e = (a, cc)
 at-mapped f (a ∷ l) (suc k) b e = at-mapped f l k b e
 
@@ -96,20 +81,11 @@ within-turn w l h = by (is_sell w.order.kind) refl
 -- ---- how many are of a sort
 
 pub how-many-append : {A : Type 0} (p : A → Bool) (l m : List A) → how_many p (l ++ m) ≡ how_many p l + how_many p m
-how-many-append p l m = ap length (keep_append p l m) ∙ length-append (keep p l) (keep p m)
+how-many-append p l m = grind (arith, keep_append, length-append)
 
 pub how-many-turn : (p : Taken → Bool) (l : List Taken) → how_many p (in_turn l) ≡ how_many p l
 how-many-turn p l = how-many-append p (side_by (λ a. a.order) true l) (side_by (λ a. a.order) false l) ∙ both l
   where
-    one : (b : Bool) (w : Taken) (k : List Taken) → length (cond b (w ∷ k) k) ≡ cond b 1 0 + length k
-    one true w k = omega arith
-    one false w k = omega arith
-
-    by : (sells : Bool) (w : Taken) (x y l : List Taken) → how_many p x + how_many p y ≡ how_many p l →
-        how_many p (cond (beq sells true) (w ∷ x) x) + how_many p (cond (beq sells false) (w ∷ y) y) ≡ how_many p (w ∷ l)
-    by true w x y l h = omega (arith, one (p w) w (keep p x), one (p w) w (keep p l))
-    by false w x y l h = omega (arith, one (p w) w (keep p y), one (p w) w (keep p l))
-
     both : (l : List Taken) → how_many p (side_by (λ a. a.order) true l) + how_many p (side_by (λ a. a.order) false l) ≡ how_many p l
     both [] = refl
-    both (w ∷ l) = by (is_sell w.order.kind) w (side_by (λ a. a.order) true l) (side_by (λ a. a.order) false l) l (both l)
+    both (w ∷ l) = grind (arith, both l)

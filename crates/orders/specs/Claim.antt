@@ -1,7 +1,7 @@
 -- The claim of demand 3 about what becomes of orders, over a list of calls of any kind. Definitions only.
 use Rattle.std.specs.Prelude.{ℕ, ◌+◌, ◌≤◌, ◌<◌, Bool, false, cond, ◌≡◌, ◌↔◌, List, [], ◌∷◌, ◌++◌, map, length, ltb}
-use Rattle.std.proofs.Math.Option.{Option, none, some}
-use Rattle.std.proofs.Math.ListN.{get_elem?}
+use Rattle.std.specs.Prelude.{Option, None, Some}
+use Rattle.std.specs.Prelude.{slice_get}
 use Rattle.lists.specs.Lists.{keep, gather, each, given, holds, All}
 use Rattle.market.specs.declared.quote.Quote.{Quote}
 use Rattle.market.specs.declared.trade.Trade.{Trade}
@@ -28,12 +28,12 @@ taken_in l = map (λ e. e.taken) l
 
 -- w stands somewhere in the list
 abbrev pub Within : {A : Type 0} → A → List A → Type 0
-Within w l = (k : ℕ) × (get_elem? l k ≡ some w)
+Within w l = (k : ℕ) × (slice_get l k ≡ Some w)
 
 -- the order of number n has traded, and x is its row
 pub record TradedAs (booked : List Entry) (n : ℕ) (x : Trade) : Type 0 where
   pub entry : Entry
-  pub there : get_elem? booked n ≡ some entry
+  pub there : slice_get booked n ≡ Some entry
   pub has-traded : entry.fate ≡ ended (traded x)
 
 -- the rows of a log and the booked orders that have traded match one to one: `who` has the number of each row's order, in the order of the rows
@@ -41,16 +41,16 @@ pub record OneRowEach (rows : List Trade) (booked : List Entry) : Type 0 where
   pub who : List ℕ
   pub each_row : length who ≡ length rows
   -- the k-th row is that of the order whose number stands there
-  pub its-order : (k n : ℕ) → get_elem? who k ≡ some n → (x : Trade) × (get_elem? rows k ≡ some x) × TradedAs booked n x
+  pub its-order : (k n : ℕ) → slice_get who k ≡ Some n → (x : Trade) × (slice_get rows k ≡ Some x) × TradedAs booked n x
   -- no order has two rows
-  pub no-two : (j k n : ℕ) → get_elem? who j ≡ some n → get_elem? who k ≡ some n → j ≡ k
+  pub no-two : (j k n : ℕ) → slice_get who j ≡ Some n → slice_get who k ≡ Some n → j ≡ k
   -- each order that has traded has one
   pub none-missing : (n : ℕ) (x : Trade) → TradedAs booked n x → Within n who
 
 module _ (K : Calls) where
   -- the trade of an order in a call: the call is an unrefused check with a tradable row for its symbol that meets its rule
   abbrev pub trade_in : Taken → K.Call → Option Trade
-  trade_in w c = given (K.tradable c) none (λ t. trade_for t w.order)
+  trade_in w c = given (K.tradable c) None (λ t. trade_for t w.order)
 
   -- some unrefused check among the calls `after` its booking had a tradable row for the order's symbol that met its rule, and the trade there is x;
   -- the order had not been deleted before that check
@@ -59,17 +59,17 @@ module _ (K : Calls) where
     pub here : K.Call
     pub rest : List K.Call
     pub split : after ≡ before ++ (here ∷ rest)
-    pub trades : trade_in w here ≡ some x
+    pub trades : trade_in w here ≡ Some x
     pub not-deleted : All (λ c. K.deletes n c ≡ false) before
 
   -- and it is the first such check
   pub record FirstTrade (w : Taken) (n : ℕ) (after : List K.Call) (x : Trade) : Type 0 where
     pub can : CanTrade w n after x
-    pub none-sooner : All (λ c. trade_in w c ≡ none) can.before
+    pub none-sooner : All (λ c. trade_in w c ≡ None) can.before
 
   -- how a call ends a resting order, and the fate over the calls after its booking: the first such end
   abbrev pub end_in : Taken → ℕ → K.Call → Option End
-  end_in w n c = cond (K.deletes n c) (some deleted) (trade_end (trade_in w c))
+  end_in w n c = cond (K.deletes n c) (Some deleted) (trade_end (trade_in w c))
 
   abbrev pub fate_of : Taken → ℕ → List K.Call → Fate
   fate_of w n [] = resting
@@ -121,13 +121,13 @@ module _ (K : Calls) (takes : List K.Call → K.Call → List Taken) (after : Li
   pub record TradeOfBooked (past : List K.Call) (c : K.Call) (x : Trade) : Type 0 where
     pub number : ℕ
     pub entry : Entry
-    pub booked-before : get_elem? (after past).booked number ≡ some entry
-    pub its-trade : trade_in K entry.taken c ≡ some x
+    pub booked-before : slice_get (after past).booked number ≡ Some entry
+    pub its-trade : trade_in K entry.taken c ≡ Some x
 
   -- after the calls cs the order w has the number n, and its life over the calls `rest` that followed its booking
   pub record Placed (cs : List K.Call) (n : ℕ) (w : Taken) (rest : List K.Call) : Type 0 where
     pub entry : Entry
-    pub there : get_elem? (after cs).booked n ≡ some entry
+    pub there : slice_get (after cs).booked n ≡ Some entry
     pub its-order : entry.taken ≡ w
     pub life : Life K entry n rest
 
@@ -144,10 +144,10 @@ module _ (K : Calls) (takes : List K.Call → K.Call → List Taken) (after : Li
     pub one-for-one : (p : Taken → Bool) → how_many p (after cs).waiting + how_many p (taken_in (after cs).booked) ≡ how_many p (taken_over [] cs)
     -- an order taken waits as long as no unrefused check follows
     pub waits : (past : List K.Call) (c : K.Call) (rest : List K.Call) (w : Taken) → cs ≡ past ++ (c ∷ rest) → Within w (takes past c) →
-        All (λ d. K.tradable d ≡ none) rest → Within w (after cs).waiting
+        All (λ d. K.tradable d ≡ None) rest → Within w (after cs).waiting
     -- the first unrefused check that follows books it; and it has traded exactly when it could, in the first check that could trade it, at that row
     pub lives : (past : List K.Call) (c : K.Call) (quiet : List K.Call) (d : K.Call) (rest : List K.Call) (t : List Quote) (w : Taken) →
-        cs ≡ (past ++ (c ∷ quiet)) ++ (d ∷ rest) → Within w (takes past c) → All (λ b. K.tradable b ≡ none) quiet → K.tradable d ≡ some t →
+        cs ≡ (past ++ (c ∷ quiet)) ++ (d ∷ rest) → Within w (takes past c) → All (λ b. K.tradable b ≡ None) quiet → K.tradable d ≡ Some t →
         (n : ℕ) × BookedBy (past ++ (c ∷ quiet)) d n × Placed cs n w rest
     -- so has each order booked
     pub fates : (past : List K.Call) (c : K.Call) (rest : List K.Call) (n : ℕ) → cs ≡ past ++ (c ∷ rest) → BookedBy past c n →

@@ -1,13 +1,12 @@
 -- Booking: trades, and fetched rows as the latest quotes. Definitions only.
-use Rattle.std.specs.Prelude.{ℕ, ◌%◌, true, false, not, cond, get_or, set}
+use Rattle.std.specs.Prelude.{ℕ, ◌%◌, get_or, set}
+use Rattle.std.specs.Prelude.{None, Some}
 use Rattle.std.specs.Float.{nan}
-use Rattle.lists.specs.Lists.{each}
-use Rattle.market.specs.Quotes.{no_quote}
+use Rattle.lists.specs.Lists.{each, given}
+use Rattle.market.specs.Quotes.{row_at}
 use Rattle.market.specs.declared.table.Table.{Table}
 use Rattle.market.specs.declared.trade.Trade.{Trade}
-use Rattle.rules.specs.Amounts.{is_zero}
 use Rattle.rules.specs.Money.{adding, taking, paid, or_zero, unless_zero}
-use Rattle.portfolio.specs.State.{pending_if}
 use Rattle.portfolio.specs.declared.state.Funds.{Funds}
 use Rattle.portfolio.specs.declared.booking.Settled.{Settled}
 
@@ -16,23 +15,20 @@ use Rattle.portfolio.specs.declared.booking.Settled.{Settled}
 -- what a trade makes of cash and of its symbol's holding and pending quantity; absent reads as 0.0
 unfoldable pub settle_of : Trade → Settled → Settled
 settle_of t x =
-    let left = taking t.typ (or_zero (pending_if x.awaited x.pending)) t.quantity in
     record {
       cash = paid t.typ x.cash t.value;
       holding = adding t.typ (or_zero (unless_zero x.holding)) t.quantity;
-      pending = left;
-      awaited = not (is_zero left);
+      pending = unless_zero (taking t.typ (or_zero x.pending) t.quantity);
     }
 
 abbrev pub settled_at : Funds → ℕ → Settled
-settled_at f s = record { cash = f.cash; holding = get_or f.holding s nan; pending = get_or f.pending s nan; awaited = get_or f.awaited s false }
+settled_at f s = record { cash = f.cash; holding = get_or f.holding s nan; pending = get_or f.pending s None }
 
 abbrev pub put_settled : Funds → ℕ → Settled → Funds
 put_settled f s x =
     record {
       holding = set f.holding s x.holding;
       pending = set f.pending s x.pending;
-      awaited = set f.awaited s x.awaited;
       cash = x.cash;
       failed = f.failed;
     }
@@ -43,9 +39,4 @@ settle_one f t = put_settled f (t.symbol % 256) (settle_of t (settled_at f (t.sy
 -- ---- latest quotes: each fetched row is its symbol's latest, those of other symbols kept
 
 unfoldable pub merge_of : Table → Table → Table
-merge_of l f =
-    record {
-      present = each (λ i p. cond (get_or f.present i false) true p) 0 l.present;
-      rows = each (λ i q. cond (get_or f.present i false) (get_or f.rows i no_quote) q) 0 l.rows;
-      fault = l.fault;
-    }
+merge_of l f = record { rows = each (λ i q. given (row_at f i) q Some) 0 l.rows; fault = l.fault }

@@ -25,27 +25,21 @@ pub fn no_basis() -> Basis
 pub fn cleared_at(quantity: f64, value: f64) -> Basis
     ensures { basis_in result ≡ cleared quantity value }
 {
-    if quantity == 0.0 {
-        return Basis {
-            quantity: quantity,
-            value: 0.0,
-        };
-    }
     Basis {
-        quantity: quantity,
-        value: value,
+        quantity,
+        value: if quantity == 0.0 { 0.0 } else { value },
     }
 }
 
 // A buy adds quantity and value, a sell subtracts both.
+#[tactic(auto, unfolding(rules::specs::Basis::basis_step))]
 pub fn basis_step(b: Basis, t: Trade, symbol: u32) -> Basis
     ensures { basis_in result ≡ basis_step symbol (basis_in b) t }
 {
     if t.symbol != symbol {
         return b;
     }
-    let typ = t.typ;
-    match typ {
+    match t.typ {
         TradeType::Buy => cleared_at(b.quantity + t.quantity, b.value + t.value),
         TradeType::Sell => cleared_at(b.quantity - t.quantity, b.value - t.value),
     }

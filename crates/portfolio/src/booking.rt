@@ -2,6 +2,7 @@
 // quotes.
 ghost use Rattle.std.specs.Prelude.{◌≡◌, take};
 ghost use mathlib.Core.List.{foldl};
+ghost use Rattle.rules.specs.Money.{unless_zero};
 ghost use Rattle.portfolio.specs.Booking.{settle_of, settle_one, merge_of};
 
 use crate::state::Funds;
@@ -13,90 +14,84 @@ use market::trade::{Trade, TradeType};
 struct Settled {
     cash: f64,
     holding: f64,
-    pending: f64,
-    awaited: bool,
+    pending: Option<f64>,
+}
+
+// A quantity that is removed where it is zero.
+fn unless_zero(x: f64) -> Option<f64>
+    ensures { result ≡ unless_zero x }
+{
+    if x == 0.0 { None } else { Some(x) }
 }
 
 // What a trade makes of them. A quantity that is absent reads as 0.0; zero is removed.
+#[tactic(auto, unfolding(crate::specs::Booking::settle_of, account::specs::Account::force_of, account::specs::Account::credit_of))]
 fn settle_one(t: Trade, x: Settled) -> Settled
     ensures { result ≡ settle_of t x }
 {
-    let mut holding = x.holding;
-    if holding == 0.0 {
-        holding = 0.0;
-    }
-    let mut pending = x.pending;
-    if !x.awaited {
-        pending = 0.0;
-    }
-    let typ = t.typ;
-    match typ {
+    let holding = unless_zero(x.holding).unwrap_or(0.0);
+    let pending = x.pending.unwrap_or(0.0);
+    match t.typ {
         TradeType::Buy => {
             let moved = account::force_debited(x.cash, t.value);
-            let left = pending - t.quantity;
             Settled {
                 cash: moved.cash,
                 holding: holding + t.quantity,
-                pending: left,
-                awaited: left != 0.0,
+                pending: unless_zero(pending - t.quantity),
             }
         }
         TradeType::Sell => {
             let moved = account::credited(x.cash, t.value);
-            let left = pending + t.quantity;
             Settled {
                 cash: moved.cash,
                 holding: holding - t.quantity,
-                pending: left,
-                awaited: left != 0.0,
+                pending: unless_zero(pending + t.quantity),
             }
         }
     }
+}
+
+// Books the trades, in order.
+#[tactic(auto, unfolding(crate::specs::Booking::settle_one))]
+fn booked(funds: Funds, trades: &[Trade]) -> Funds
+    ensures { result ≡ foldl settle_one funds trades.now }
+{
+    let mut f = funds;
+    for t in trades {
+        let at = (t.symbol % 256) as usize;
+        let x = settle_one(
+            *t,
+            Settled {
+                cash: f.cash,
+                holding: f.holding[at],
+                pending: f.pending[at],
+            },
+        );
+        f.cash = x.cash;
+        f.holding[at] = x.holding;
+        f.pending[at] = x.pending;
+    }
+    f
 }
 
 // Books the first `count` trades, in order.
 pub fn settle(funds: Funds, trades: [Trade; 1024], count: usize) -> Funds
     ensures { result ≡ foldl settle_one funds (take count trades) }
 {
-    let mut f = funds;
-    let mut i: usize = 0;
-    while i < 1024 {
-        if i >= count {
-            break;
-        }
-        let t = trades[i];
-        let at = (t.symbol % 256) as usize;
-        let x = settle_one(
-            t,
-            Settled {
-                cash: f.cash,
-                holding: f.holding[at],
-                pending: f.pending[at],
-                awaited: f.awaited[at],
-            },
-        );
-        f.cash = x.cash;
-        f.holding[at] = x.holding;
-        f.pending[at] = x.pending;
-        f.awaited[at] = x.awaited;
-        i = i + 1;
-    }
-    f
+    let count = count.min(1024);
+    booked(funds, &trades[..count])
 }
 
 // Each fetched row is its symbol's latest quote.
+#[tactic(auto, unfolding(crate::specs::Booking::merge_of))]
 pub fn merge(latest: Table, fetched: Table) -> Table
     ensures { result ≡ merge_of latest fetched }
 {
     let mut l = latest;
-    let mut i: usize = 0;
-    while i < 256 {
-        if fetched.present[i] {
-            let q = fetched.rows[i];
-            l.rows[i] = q;
-            l.present[i] = true;
+    for (i, row) in fetched.rows.iter().enumerate() {
+        if row.is_some() {
+            l.rows[i] = *row;
         }
-        i = i + 1;
     }
     l
 }

@@ -1,22 +1,20 @@
 // The sales of a liquidation: positions are sold by symbol until the amount is met.
-ghost use Rattle.std.specs.Prelude.{◌≡◌, []};
-ghost use Rattle.market.specs.Trades.{row_if};
+ghost use Rattle.std.specs.Prelude.{◌≡◌};
 ghost use Rattle.rules.specs.Values.{symbols};
 ghost use Rattle.rules.specs.Liquidation.{last_sale, sales_from, sales_for};
 ghost use Rattle.portfolio.specs.State.{money_of};
-ghost use Rattle.portfolio.specs.Liquidate.{part_in, sold_in, sales_in};
+ghost use Rattle.portfolio.specs.Lists.{listed_in};
+ghost use Rattle.portfolio.specs.Liquidate.{part_in, sold_in};
 
 use crate::list::OrderList;
 use crate::state::Portfolio;
-use crate::value;
 use market::order::Order;
 use market::quote::Quote;
 
-// Where the walk stops: the last order, if it `sells`, and the remaining amount.
+// Where the walk stops: the last order, if there is one, and the remaining amount.
 #[derive(Clone, Copy)]
 struct Part {
-    order: Order,
-    sells: bool,
+    order: Option<Order>,
     rest: f64,
 }
 
@@ -27,100 +25,64 @@ struct Sold {
     rest: f64,
 }
 
-// The orders of a liquidation, where it is `found` that it succeeds.
-#[derive(Clone, Copy)]
-pub struct SaleList {
-    pub list: OrderList,
-    pub found: bool,
-}
-
 // A part of a position that is worth more than the rest; nothing where it has no latest quote.
-fn last_sale(present: bool, q: Quote, symbol: u32, rest: f64) -> Part
-    ensures { part_in result ≡ last_sale (row_if present q) symbol rest }
+fn last_sale(row: Option<Quote>, symbol: u32, rest: f64) -> Part
+    ensures { part_in result ≡ last_sale row symbol rest }
 {
-    if present {
-        let shares = rest / floats::ceil(q.bid);
-        let order = Order::market_sell(symbol, shares);
-        return Part {
-            order: order,
-            sells: true,
+    match row {
+        Some(q) => Part {
+            order: Some(Order::market_sell(symbol, rest / floats::ceil(q.bid))),
             rest: 0.0,
-        };
-    }
-    let order = Order::market_sell(symbol, 0.0);
-    Part {
-        order: order,
-        sells: false,
-        rest: rest,
-    }
-}
-
-fn nothing_more(rest: f64) -> Part
-    ensures { part_in result ≡ record { orders = []; rest = rest } }
-{
-    let order = Order::blank();
-    Part {
-        order: order,
-        sells: false,
-        rest: rest,
+        },
+        None => Part { order: None, rest },
     }
 }
 
 // Sells positions by symbol until the amount is met.
-fn sell_positions(p: Portfolio, amount: f64) -> Sold
-    ensures { sold_in result ≡ sales_from (money_of p) symbols amount }
+fn sell_positions(p: &Portfolio, amount: f64) -> Sold
+    ensures { sold_in result ≡ sales_from (money_of p.now) symbols amount }
 {
-    let latest = p.latest;
-    let funds = p.funds;
     let mut list = OrderList::none();
-    let mut n: usize = 0;
     let mut rest = amount;
-    let mut i: usize = 0;
+    let mut symbol: u32 = 0;
+    // A `for` cannot be left by `break` with a value, so the symbols are counted by hand.
     let part = loop {
-        if i >= 256 {
-            break nothing_more(rest);
+        if symbol > 255 {
+            break Part { order: None, rest };
         }
-        let holding = funds.holding[i];
+        let holding = p.funds.holding_of(symbol);
         if holding != 0.0 {
-            let q = latest.rows[i];
-            let present = latest.present[i];
-            let v = value::or_zero(value::value_at(present, q, holding));
-            if !(v <= rest) {
-                break last_sale(present, q, i as u32, rest);
+            let value = p.value_of(symbol).unwrap_or(0.0);
+            if !(value <= rest) {
+                break last_sale(p.latest.row(symbol), symbol, rest);
             }
-            list.orders[n] = Order::market_sell(i as u32, holding);
-            n = n + 1;
-            rest = rest - v;
+            list.push(Order::market_sell(symbol, holding));
+            rest -= value;
         }
-        i = i + 1;
+        symbol += 1;
     };
-    if part.sells {
-        let order = part.order;
-        list.orders[n] = order;
-        n = n + 1;
+    if let Some(order) = part.order {
+        list.push(order);
     }
-    list.count = n;
     Sold {
-        list: list,
+        list,
         rest: part.rest,
     }
 }
 
-// The orders that an amount is met with; not found where it exceeds the liquidation value, or where
-// a rest is left.
-pub fn sales_for(p: Portfolio, amount: f64) -> SaleList
-    ensures { sales_in result ≡ sales_for (money_of p) amount }
+// The orders that an amount is met with; none where it exceeds the liquidation value, or where a
+// rest is left.
+#[tactic(auto, unfolding(rules::specs::Liquidation::sales_for))]
+pub fn sales_for(p: Portfolio, amount: f64) -> Option<OrderList>
+    ensures { listed_in result ≡ sales_for (money_of p) amount }
 {
     if amount > p.get_liquidation_value() {
-        return SaleList {
-            list: OrderList::none(),
-            found: false,
-        };
+        return None;
     }
-    let sold = sell_positions(p, amount);
-    let list = sold.list;
-    SaleList {
-        list: list,
-        found: sold.rest == 0.0,
+    let sold = sell_positions(&p, amount);
+    if sold.rest == 0.0 {
+        Some(sold.list)
+    } else {
+        None
     }
 }

@@ -1,6 +1,6 @@
 // Lists of orders, as a liquidation or the weights make them.
 ghost use Rattle.std.specs.Prelude.{◌≡◌};
-ghost use Rattle.portfolio.specs.Lists.{no_orders};
+ghost use Rattle.portfolio.specs.Lists.{no_orders, with_order, listed};
 
 use market::order::Order;
 
@@ -12,6 +12,7 @@ pub struct OrderList {
 }
 
 impl OrderList {
+    #[tactic(auto, unfolding(crate::specs::Lists::no_orders))]
     pub fn none() -> OrderList
         ensures { result ≡ no_orders }
     {
@@ -20,5 +21,22 @@ impl OrderList {
             orders: [o; 256],
             count: 0,
         }
+    }
+
+    // Lists an order behind the others, where there is a place.
+    pub fn push(&mut self, order: Order)
+        ensures { self.new ≡ with_order self.old order }
+    {
+        if self.count < 256 {
+            self.orders[self.count] = order;
+            self.count += 1;
+        }
+    }
+
+    // The orders that are listed.
+    pub fn orders(&self) -> &[Order]
+        ensures { result.now ≡ listed self.now }
+    {
+        &self.orders[..self.count.min(256)]
     }
 }

@@ -1,17 +1,16 @@
 // A portfolio by role: the latest quotes, the funds, the costs and the lot.
 ghost use Rattle.std.specs.Prelude.{◌≡◌};
-ghost use Rattle.portfolio.specs.State.{no_funds};
+ghost use Rattle.rules.specs.Money.{unless_zero};
+ghost use Rattle.portfolio.specs.State.{no_funds, held_at};
 
 use costs::TradeCosts;
 use market::table::Table;
 
-// A symbol is held where its holding is not 0.0. A pending quantity is there where `awaited` says
-// so, since a sum of zero stays present.
+// A symbol is held where its holding is not 0.0. A pending sum of zero stays present.
 #[derive(Clone, Copy)]
 pub struct Funds {
     pub holding: [f64; 256],
-    pub pending: [f64; 256],
-    pub awaited: [bool; 256],
+    pub pending: [Option<f64>; 256],
     pub cash: f64,
     pub failed: bool,
 }
@@ -26,15 +25,27 @@ pub struct Portfolio {
 
 impl Funds {
     // Cash 0.0, nothing held, nothing pending.
+    #[tactic(auto, unfolding(crate::specs::State::no_funds))]
     pub fn none() -> Funds
         ensures { result ≡ no_funds }
     {
         Funds {
             holding: [0.0; 256],
-            pending: [0.0; 256],
-            awaited: [false; 256],
+            pending: [None; 256],
             cash: 0.0,
             failed: false,
+        }
+    }
+
+    // A symbol's holding, or 0.0.
+    #[tactic(auto, using(crate::proofs::Symbols::held_past))]
+    pub fn holding_of(&self, symbol: u32) -> f64
+        ensures { unless_zero result ≡ held_at self.now.holding symbol }
+    {
+        if symbol < 256 {
+            self.holding[symbol as usize]
+        } else {
+            0.0
         }
     }
 }

@@ -1,45 +1,22 @@
 // The walk over weights: the orders by which the holdings meet a model portfolio, in multiples of the
 // lot.
-ghost use Rattle.std.specs.Prelude.{◌≡◌, not, [], ◌∷◌, ◌≤◌, take};
-ghost use Rattle.std.proofs.Math.Option.{some};
+ghost use Rattle.std.specs.Prelude.{◌≡◌, ◌≤◌, length};
 ghost use Rattle.costs.specs.Kept.{costs_of};
-ghost use Rattle.orders.specs.Orders.{of_side};
-ghost use Rattle.floats.specs.Lots.{multiple_in};
-ghost use Rattle.rules.specs.Amounts.{is_zero};
-ghost use Rattle.rules.specs.Weights.{negated_shares, shares_for, order_for, orders_for, orders_at, wanted, plan_of};
+ghost use Rattle.orders.specs.Orders.{of_side, sells_first};
+ghost use Rattle.rules.specs.Weights.{shares_for, order_for, orders_at, wanted, plan_of};
 ghost use Rattle.portfolio.specs.State.{money_of};
-ghost use Rattle.portfolio.specs.Lists.{listed};
-ghost use Rattle.market.specs.Faults.{◌draws◌, drawn};
-ghost use Rattle.market.specs.Trades.{row_if};
+ghost use Rattle.portfolio.specs.Lists.{listed, listed_in, onto_of};
+ghost use Rattle.lists.specs.Lists.{holds};
 ghost use Rattle.market.specs.Weights.{weighed};
-ghost use Rattle.portfolio.specs.Weigh.{order_in, wanted_in, walked_of, onto_of, plan_in};
+ghost use Rattle.portfolio.specs.Weigh.{row_in, refused, plan_in};
 
 use crate::list::OrderList;
 use crate::state::Portfolio;
-use crate::value;
 use costs::TradeCosts;
 use floats::lot;
-use floats::lot::Multiple;
 use market::order::Order;
 use market::quote::Quote;
-use market::table;
 use market::weight::{Weight, Weights};
-
-// What wanted shares come to; `Beyond` where the lot does not round the quotient.
-#[derive(Clone, Copy)]
-enum Wanted {
-    Listed(Order),
-    Nothing,
-    Beyond,
-}
-
-// The orders of the rows that were walked; all of the walk's where it is `found` that the lot rounds
-// every quotient that it meets.
-#[derive(Clone, Copy)]
-struct WantedList {
-    list: OrderList,
-    found: bool,
-}
 
 // The orders of the weights, and the number drawn, or 0; where one is drawn, no order is listed.
 #[derive(Clone, Copy)]
@@ -48,155 +25,108 @@ pub struct Plan {
     pub fault: u32,
 }
 
-fn negated(shares: Multiple) -> Multiple
-    ensures { multiple_in result ≡ negated_shares (multiple_in shares) }
-{
-    match shares {
-        Multiple::Of(x) => Multiple::Of(-x),
-        Multiple::Beyond => Multiple::Beyond,
-    }
-}
-
-// The shares that a difference comes to at a quote, net of costs.
-fn shares_for(lot: u32, costs: TradeCosts, difference: f64, q: Quote) -> Multiple
-    ensures { multiple_in result ≡ shares_for lot (costs_of costs) difference q }
+// The shares that a difference comes to at a quote, net of costs; none where the lot does not round
+// the quotient.
+#[tactic(auto, unfolding(rules::specs::Weights::shares_for))]
+fn shares_for(lot: u32, costs: TradeCosts, difference: f64, q: Quote) -> Option<f64>
+    ensures { result ≡ shares_for lot (costs_of costs) difference q }
 {
     if difference < 0.0 {
         let net = costs::net_of_costs(costs, -difference, q.bid, false);
-        negated(lot::floor_to_lot(net.budget / net.price, lot))
+        let shares = lot::floor_to_lot(net.budget / net.price, lot)?;
+        Some(-shares)
     } else {
         let net = costs::net_of_costs(costs, difference, q.ask, true);
         lot::floor_to_lot(net.budget / net.price, lot)
     }
 }
 
-fn order_for(symbol: u32, shares: f64) -> Wanted
-    ensures { order_in result ≡ some (order_for symbol shares) }
+// The order that shares come to: a sale where they are below zero or a NaN.
+#[tactic(auto, unfolding(rules::specs::Weights::order_for))]
+fn order_for(symbol: u32, shares: f64) -> Option<Order>
+    ensures { holds result ≡ order_for symbol shares }
 {
     if shares == 0.0 {
-        return Wanted::Nothing;
+        return None;
     }
     if shares > 0.0 {
-        let order = Order::market_buy(symbol, shares);
-        return Wanted::Listed(order);
+        return Some(Order::market_buy(symbol, shares));
     }
-    let mut size = shares;
-    if shares < 0.0 {
-        size = -shares;
-    }
-    let order = Order::market_sell(symbol, size);
-    Wanted::Listed(order)
+    let size = if shares < 0.0 { -shares } else { shares };
+    Some(Order::market_sell(symbol, size))
 }
 
-fn wanted_for(symbol: u32, shares: Multiple) -> Wanted
-    ensures { order_in result ≡ orders_for symbol (multiple_in shares) }
-{
-    match shares {
-        Multiple::Of(x) => order_for(symbol, x),
-        Multiple::Beyond => Wanted::Beyond,
-    }
-}
-
-// What a row of weights comes to; an unquoted symbol is passed over.
+// What a row of weights comes to, an order or nothing; an unquoted symbol is passed over. None where
+// the lot does not round the quotient.
 fn wanted_at(
     lot: u32,
     costs: TradeCosts,
     symbol: u32,
     difference: f64,
-    present: bool,
-    q: Quote,
-) -> Wanted
-    ensures { order_in result ≡ orders_at lot (costs_of costs) symbol difference (row_if present q) }
+    row: Option<Quote>,
+) -> Option<Option<Order>>
+    ensures { row_in result ≡ orders_at lot (costs_of costs) symbol difference row }
 {
-    if !present {
-        return Wanted::Nothing;
-    }
-    wanted_for(symbol, shares_for(lot, costs, difference, q))
+    let Some(q) = row else {
+        return Some(None);
+    };
+    let shares = shares_for(lot, costs, difference, q)?;
+    Some(order_for(symbol, shares))
 }
 
-// The first `count` orders of a list.
-fn walked(list: OrderList, count: usize, found: bool) -> WantedList
-    ensures { result ≡ walked_of list count found }
+// The orders of the rows of weights, up to the first zero difference; none where the lot does not
+// round a quotient.
+fn wanted_orders(p: &Portfolio, total: f64, rows: &[Weight]) -> Option<OrderList>
+    requires { length rows.now ≤ 256 }
+    ensures { listed_in result ≡ wanted (money_of p.now) total rows.now }
 {
-    let mut orders = list;
-    orders.count = count;
-    WantedList {
-        list: orders,
-        found: found,
-    }
-}
-
-// The orders of the first `count` rows of weights, up to the first zero difference.
-fn wanted_orders(p: Portfolio, total: f64, rows: [Weight; 257], count: usize) -> WantedList
-    ensures { wanted_in result ≡ wanted (money_of p) total (take count (take 256 rows)) }
-{
-    let latest = p.latest;
-    let funds = p.funds;
-    let costs = p.costs;
-    let lot = p.lot;
     let mut list = OrderList::none();
-    let mut n: usize = 0;
-    let mut i: usize = 0;
-    while i < 256 {
-        if i >= count {
-            break;
-        }
-        let w = rows[i];
-        let at = (w.symbol % 256) as usize;
-        let q = latest.rows[at];
-        let present = table::has_row(w.symbol, latest.present[at]);
-        let v = value::or_zero(value::value_at(present, q, funds.holding[at]));
-        let difference = total * w.weight - v;
+    for w in rows {
+        let value = p.value_of(w.symbol).unwrap_or(0.0);
+        let difference = total * w.weight - value;
         if difference == 0.0 {
             break;
         }
-        let x = wanted_at(lot, costs, w.symbol, difference, present, q);
-        match x {
-            Wanted::Listed(order) => {
-                list.orders[n] = order;
-                n = n + 1;
-            }
-            Wanted::Nothing => {}
-            Wanted::Beyond => return walked(list, n, false),
+        let row = p.latest.row(w.symbol);
+        if let Some(order) = wanted_at(p.lot, p.costs, w.symbol, difference, row)? {
+            list.push(order);
         }
-        i = i + 1;
     }
-    walked(list, n, true)
+    Some(list)
 }
 
 // The orders of one side of a list behind those that `onto` has.
-fn side_onto(list: OrderList, sells: bool, onto: OrderList) -> OrderList
+fn side_onto(list: &OrderList, sells: bool, onto: OrderList) -> OrderList
     requires { onto.count ≤ 256 }
-    ensures { result ≡ onto_of onto (of_side sells (listed list)) }
+    ensures { result ≡ onto_of onto (of_side sells (listed list.now)) }
 {
     let mut out = onto;
-    let mut n = out.count;
-    let mut i: usize = 0;
-    while i < 256 {
-        if i >= list.count {
-            break;
-        }
-        let o = list.orders[i];
+    for o in list.orders() {
         if o.is_sell() == sells {
-            if n < 256 {
-                out.orders[n] = o;
-                n = n + 1;
-            }
+            out.push(*o);
         }
-        i = i + 1;
     }
-    out.count = n;
     out
 }
 
-// 13 where there is no value to weigh, 18 where the lot does not round a quotient, or 0.
-fn plan_fault(total: f64, found: bool) -> u32
-    ensures { result ≡ drawn ((is_zero total draws 13) ∷ (not found draws 18) ∷ []) }
+// A list's sales, then its buys.
+fn sells_first(list: &OrderList) -> OrderList
+    ensures { listed result ≡ sells_first (listed list.now) }
 {
-    if total == 0.0 {
-        return 13;
+    let sales = side_onto(list, true, OrderList::none());
+    side_onto(list, false, sales)
+}
+
+impl Plan {
+    // No orders, and the number drawn.
+    fn refused(fault: u32) -> Plan
+        ensures { result ≡ refused fault }
+    {
+        Plan {
+            list: OrderList::none(),
+            fault,
+        }
     }
-    if found { 0 } else { 18 }
 }
 
 impl Portfolio {
@@ -205,19 +135,16 @@ impl Portfolio {
         ensures { plan_in result ≡ plan_of (money_of self) (weighed weights) }
     {
         let total = self.get_liquidation_value();
-        let walk = wanted_orders(self, total, weights.rows(), weights.count());
-        let list = walk.list;
-        let none = OrderList::none();
-        let fault = plan_fault(total, walk.found);
-        if fault != 0 {
-            return Plan {
-                list: none,
-                fault: fault,
-            };
+        if total == 0.0 {
+            return Plan::refused(13);
         }
-        let sales = side_onto(list, true, none);
+        let rows = weights.rows();
+        let count = weights.count().min(256);
+        let Some(list) = wanted_orders(&self, total, &rows[..count]) else {
+            return Plan::refused(18);
+        };
         Plan {
-            list: side_onto(list, false, sales),
+            list: sells_first(&list),
             fault: 0,
         }
     }

@@ -5,7 +5,7 @@ use std::io;
 
 // 20 is drawn above 65,536 bytes, and 15 comes before it.
 pub fn print_long_inputs(rt: &impl Print) -> io::Result<()> {
-    let long: [u8; 65537] = [b'0'; 65537];
+    let long = [b'0'; 65537];
     print_read(rt, &long, 256, 15104)?;
     print_read(rt, &long[..65536], 256, 15104)?;
     print_read(rt, &long, 255, 15104)

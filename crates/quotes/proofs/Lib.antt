@@ -1,2 +1,2 @@
--- Printing.antt: bytes put in the first places of a buffer, one after the other, and what is answered of them.
+-- Printing.antt: bytes put in the first places of a buffer, and what is answered of them.
 pub mod Printing

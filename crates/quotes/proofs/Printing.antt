@@ -1,9 +1,9 @@
--- Bytes put in the first places of a buffer l: those of an array b one after the other, and what is answered of them. Assumes nothing.
+-- Bytes put in the first places of a buffer l, and what is answered of them. Assumes nothing.
 use Prim.Native.Nat.{ℕ, zero, suc, ◌+◌, min, ◌≤◌, ◌<◌}
 use native.Mathlib.Numerals.{add-one}
 use native.Mathlib.Omega.{arith}
 use mathlib.Core.Path.{◌≡◌, refl, sym, ◌∙◌, ap, ap₂}
-use mathlib.Core.List.{List, [], ◌∷◌}
+use mathlib.Core.List.{List, [], ◌∷◌, ◌++◌}
 use lib.ListN.{length, take, drop, set, get_or, replicate, length-append, length-take}
 use lib.Seq.{length-take-le, take-suc}
 use Rattle.lists.specs.Lists.{over}
@@ -22,48 +22,15 @@ use Rattle.vendor.specs.Answers.{AnswersWrite, read_on}
 use Rattle.vendor.specs.declared.on_arrays.TableRead.{TableRead}
 use Rattle.quotes.specs.Printed.{number_line, printed_of, SamePrinted}
 
--- the first i of the n bytes that b spells are put; `out` is the buffer then
-pub record Puts (b l : List ℕ) (n : ℕ) (out : List ℕ) (i : ℕ) : Type 0 where
-  pub some : i ≤ n
-  pub fits : n ≤ length b
-  pub room : n < length l
-  pub is : out ≡ over (take i b) l
-
-module _ {b l out : List ℕ} {n i : ℕ} (p : Puts b l n out i) where
-  taken : length (take i b) ≡ i
-  taken = length-take-le i b (omega (arith, p.some, p.fits))
-
-  pub puts-long : length out ≡ length l
-  puts-long = ap length p.is ∙ length_over (take i b) l (omega (arith, p.some, p.room, taken))
-
-  pub puts_one : i < n → Puts b l n (set out i (get_or b i 0)) (i + 1)
-  puts_one h =
-      let least : i < length b = omega (arith, h, p.fits) in
-      let more : set (over (take i b) l) i (get_or b i 0) ≡ over (take (i + 1) b) l =
-      over-more (take i b) l i (get_or b i 0) (sym taken) (omega (arith, h, p.room, taken))
-      ∙ ap (λ (z : List ℕ). over z l) (sym (take-suc b i 0 least) ∙ ap (λ (k : ℕ). take k b) (sym (add-one i))) in
-      record { some = omega (arith, h); fits = p.fits; room = p.room; is = ap (λ (z : List ℕ). set z i (get_or b i 0)) p.is ∙ more }
-
-  pub puts-all : n ≤ i → out ≡ over (take n b) l
-  puts-all h = let all : i ≡ n = omega (arith, h, p.some) in p.is ∙ ap (λ (k : ℕ). over (take k b) l) all
-
 -- ---- a number
 
-module _ (n : ℕ) (x : Spelled) (is : Spells (digits n) x) (long : length x.bytes ≡ 20) where
-  -- what is spelled is no longer than the array
-  pub digits-fit : x.count ≤ 20
-  digits-fit = omega (arith, is.count, ap length is.bytes, length-take x.count x.bytes, long)
-
-  module _ (l : List ℕ) (room : 20 < length l) where
-    pub puts_none : Puts x.bytes l x.count l 0
-    puts_none = record { some = omega arith; fits = omega (arith, digits-fit, long); room = omega (arith, digits-fit, room); is = refl }
-
--- the newline behind the digits
-pub line-put : (n : ℕ) (x : Spelled) (l out : List ℕ) → Spells (digits n) x → x.count < length l → out ≡ over (take x.count x.bytes) l →
-    (x.count + 1 ≡ length (number_line n)) × (set out x.count 10 ≡ over (number_line n) l)
-line-put n x l out is room put = (
+-- the digits are put, and the newline behind them
+pub line-put : (n : ℕ) (x : Spelled) (l put : List ℕ) → Spells (digits n) x → length x.bytes ≡ 20 → 20 < length l → put ≡ take x.count x.bytes →
+    (x.count + 1 ≡ length (number_line n)) × (set (put ++ drop x.count l) x.count 10 ≡ over (number_line n) l)
+line-put n x l put is long room same = (
   ap (λ (k : ℕ). k + 1) is.count ∙ sym (length-append (digits n) (10 ∷ [])),
-  ap (λ (z : List ℕ). set z x.count 10) (put ∙ ap (λ (z : List ℕ). over z l) is.bytes) ∙ over-more (digits n) l x.count 10 is.count (omega (arith, is.count, room)),
+  ap (λ (z : List ℕ). set z x.count 10) (ap₂ (λ (z : List ℕ) (k : ℕ). z ++ drop k l) (same ∙ is.bytes) is.count)
+      ∙ over-more (digits n) l x.count 10 is.count (omega (arith, is.count, room, ap length is.bytes, length-take x.count x.bytes, long)),
 )
 
 -- ---- what is answered

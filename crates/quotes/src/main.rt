@@ -17,14 +17,8 @@ fn put_number(n: u64, out: &mut [u8]) -> usize
     ensures { (result ≡ length (number_line n)) × (out.new ≡ over (number_line n) out.old) }
 {
     let text = decimal_text(n);
-    let bytes = text.bytes;
     let count = text.count;
-    let mut i = 0;
-    while i < count {
-        let b = bytes[i];
-        out[i] = b;
-        i = i + 1;
-    }
+    out[..count].copy_from_slice(&text.bytes[..count]);
     out[count] = b'\n';
     count + 1
 }
@@ -36,17 +30,15 @@ fn printed(input: &[u8], out: &mut [u8]) -> usize
     ensures out_after { take result out.new ≡ printed_of input.now }
 {
     let x = read_on(input, 256);
-    let answer = x.answer;
-    if answer.fault > 0 {
-        return put_number(answer.fault as u64, out);
+    if x.answer.fault > 0 {
+        return put_number(x.answer.fault as u64, out);
     }
-    let rows = x.rows;
-    let y = write_on(rows, answer.rows, out);
-    y.bytes
+    write_on(x.rows, x.answer.rows, out).bytes
 }
 
 // Reads until `buf` is full or the input ends, and answers how many bytes came. A read that fails
-// counts as the end.
+// counts as the end. No method of the library says how many bytes came before that, so the loop counts
+// them.
 fn read_full(reader: &mut impl Read, buf: &mut [u8]) -> usize
     ensures { result ≤ length buf.new }
 {
@@ -63,9 +55,9 @@ fn read_full(reader: &mut impl Read, buf: &mut [u8]) -> usize
 
 fn main(rt: HostRuntime) -> io::Result<()> {
     // One byte more than an input may have, so that a longer one is told.
-    let mut input: [u8; 65537] = [0; 65537];
+    let mut input = [0; 65537];
     let n = read_full(&mut rt.stdin(), &mut input);
-    let mut out: [u8; 15104] = [0; 15104];
+    let mut out = [0; 15104];
     let k = printed(&input[..n], &mut out);
     Print::write_all(&rt, &out[..k])
 }

@@ -1,8 +1,6 @@
 -- Where a reader finds what:
--- * Collecting.antt: the loops that collect a broker's rows by value; Copying.antt: the loop that copies their symbols.
--- * Answering.antt: from the rows by value to what is stated of a lent list.
+-- * BySymbol.antt: the rows that a closure makes symbol by symbol, and those of a table; Present.antt: rows that may be missing, counted and stored.
 -- * Broken.antt: every call on a broker that draws 16 draws it first and changes nothing.
-pub mod Collecting
-pub mod Answering
-pub mod Copying
+pub mod BySymbol
+pub mod Present
 pub mod Broken

@@ -1,10 +1,9 @@
 -- The rows of a broker's lists, over what the rules read of it: those by symbol ascend. Definitions only.
-use Rattle.std.specs.Prelude.{ℕ, ◌≡◌, List, [], ◌∷◌, map, Float, length, take}
-use Rattle.std.proofs.Math.Option.{Option}
+use Rattle.std.specs.Prelude.{ℕ, List, [], ◌∷◌, Float}
+use Rattle.std.specs.Prelude.{Option}
 use Rattle.lists.specs.Lists.{gather, given}
 use Rattle.market.specs.declared.quote.Quote.{Quote}
 use Rattle.costs.specs.declared.BrokerCost.{BrokerCost}
-use Rattle.costs.specs.declared.Cost.{Cost}
 use Rattle.rules.specs.Money.{Money}
 use Rattle.rules.specs.Values.{symbols}
 use Rattle.reads.specs.declared.collected.Holding.{Holding}
@@ -35,10 +34,5 @@ unfoldable pub quote_rows : Money → List Quote
 quote_rows m = rows_of (λ s q. q) m.latest
 
 -- `get_trade_costs`: the costs, in their order
-unfoldable pub cost_rows : Money → List Cost
-cost_rows m = map (λ (c : BrokerCost). record { cost = c }) m.costs
-
--- an array with the rows in its first places, counted
-pub record Keeps {A : Type 0} (rows kept : List A) (n : ℕ) : Type 0 where
-  pub first : take n kept ≡ rows
-  pub count : n ≡ length rows
+unfoldable pub cost_rows : Money → List BrokerCost
+cost_rows m = m.costs

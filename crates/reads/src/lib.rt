@@ -3,5 +3,4 @@
 #![tactic(auto)]
 
 pub mod collected;
-mod store;
 pub mod uist;

@@ -2,10 +2,9 @@
 // `/`.
 use calls::verb::Verb;
 
-// What a word has to be; nothing where there is none.
-#[derive(Clone, Copy)]
+// What a word has to be.
+#[derive(Clone, Copy, PartialEq)]
 pub enum Want {
-    Nothing,
     Float,
     Whole,
     Symbol,
@@ -20,50 +19,26 @@ pub enum Want {
     Cost,
 }
 
-pub(crate) fn is_wanted(want: Want) -> bool {
-    match want {
-        Want::Nothing => false,
-        _ => true,
-    }
-}
-
 // May it be left out? A word that is not it is then of what comes next.
-pub(crate) fn is_optional(want: Want) -> bool {
-    match want {
-        Want::Lot => true,
-        _ => false,
-    }
+pub(crate) fn is_optional(want: Option<Want>) -> bool {
+    want == Some(Want::Lot)
 }
 
-// The one of these three at the place `k`.
-fn picked(k: usize, first: Want, second: Want, third: Want) -> Want {
-    if k == 0 {
-        return first;
-    }
-    if k == 1 {
-        return second;
-    }
-    if k == 2 {
-        return third;
-    }
-    Want::Nothing
-}
-
-// The first word alone.
-fn only(k: usize, want: Want) -> Want {
-    picked(k, want, Want::Nothing, Want::Nothing)
+// The one of these at the place `k`.
+fn picked(k: usize, wants: &[Want]) -> Option<Want> {
+    wants.get(k).copied()
 }
 
 // The word at the place `k` behind the call's name, before its lists.
-pub(crate) fn fixed(verb: Verb, k: usize) -> Want {
+pub(crate) fn fixed(verb: Verb, k: usize) -> Option<Want> {
     match verb {
-        Verb::New => picked(k, Want::Log, Want::Lot, Want::Nothing),
-        Verb::Lend => only(k, Want::Log),
+        Verb::New => picked(k, &[Want::Log, Want::Lot]),
+        Verb::Lend => picked(k, &[Want::Log]),
         Verb::Deposit | Verb::Withdraw | Verb::Liquidate | Verb::Floor | Verb::Ceil => {
-            only(k, Want::Float)
+            picked(k, &[Want::Float])
         }
-        Verb::Send | Verb::Insert => only(k, Want::Order),
-        Verb::Delete => only(k, Want::Whole),
+        Verb::Send | Verb::Insert => picked(k, &[Want::Order]),
+        Verb::Delete => picked(k, &[Want::Whole]),
         Verb::SendList
         | Verb::Walk
         | Verb::Update
@@ -72,29 +47,29 @@ pub(crate) fn fixed(verb: Verb, k: usize) -> Want {
         | Verb::GetHoldings
         | Verb::GetPendingOrders
         | Verb::GetTradeCosts
-        | Verb::Correct => only(k, Want::Room),
+        | Verb::Correct => picked(k, &[Want::Room]),
         Verb::GetQuote
         | Verb::GetPositionQty
         | Verb::GetPendingOrder
         | Verb::GetPositionValue
         | Verb::GetPositionLiquidationValue
-        | Verb::CostBasis => only(k, Want::Symbol),
-        Verb::TradeImpactTotal => picked(k, Want::Float, Want::Float, Want::Side),
-        Verb::CalculateTradeCosts => picked(k, Want::Float, Want::Float, Want::Nothing),
-        _ => Want::Nothing,
+        | Verb::CostBasis => picked(k, &[Want::Symbol]),
+        Verb::TradeImpactTotal => picked(k, &[Want::Float, Want::Float, Want::Side]),
+        Verb::CalculateTradeCosts => picked(k, &[Want::Float, Want::Float]),
+        _ => None,
     }
 }
 
 // The rows of the list at the place `k`.
-pub(crate) fn row(verb: Verb, k: usize) -> Want {
+pub(crate) fn row(verb: Verb, k: usize) -> Option<Want> {
     match verb {
-        Verb::New => picked(k, Want::Cost, Want::Quote, Want::Nothing),
-        Verb::Check => picked(k, Want::Quote, Want::Quote, Want::Nothing),
-        Verb::Update => picked(k, Want::Quote, Want::Quote, Want::Weight),
-        Verb::Walk => only(k, Want::Weight),
-        Verb::SendList => only(k, Want::Order),
-        Verb::Correct => only(k, Want::Vendor),
-        _ => Want::Nothing,
+        Verb::New => picked(k, &[Want::Cost, Want::Quote]),
+        Verb::Check => picked(k, &[Want::Quote, Want::Quote]),
+        Verb::Update => picked(k, &[Want::Quote, Want::Quote, Want::Weight]),
+        Verb::Walk => picked(k, &[Want::Weight]),
+        Verb::SendList => picked(k, &[Want::Order]),
+        Verb::Correct => picked(k, &[Want::Vendor]),
+        _ => None,
     }
 }
 

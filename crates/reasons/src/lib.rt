@@ -2,15 +2,12 @@
 // and a reason of a fixed list, which docs/SCENARIOS.md has. It is asked of malformed lines alone.
 #![tactic(auto)]
 
-ghost use Rattle.std.specs.Prelude.{◌≤◌, length};
-
 pub mod form;
 pub mod wrong;
 
 use calls::verb;
 use calls::verb::Verb;
 use words::word;
-use words::word::Word;
 use wrong::Why;
 
 // The word of the line that is wrong, the call's name being the first, and the reason.
@@ -61,40 +58,34 @@ fn is_slash(w: &[u8]) -> bool {
 // Is the word the `/` that ends this list, before another one?
 fn ends_list(p: Place, w: &[u8]) -> bool {
     let verb = p.verb;
-    let more = p.list < 2 && form::is_wanted(form::row(verb, p.list + 1));
+    let more = p.list < 2 && form::row(verb, p.list + 1).is_some();
     more && is_slash(w)
 }
 
 // What is wrong with a word of a list.
-fn wrong_row(p: Place, w: &[u8], rows: u64) -> Why {
-    let verb = p.verb;
-    let want = form::row(verb, p.list);
-    if !form::is_wanted(want) {
-        return Why::TooManyWords;
-    }
+fn wrong_row(p: Place, w: &[u8], rows: u64) -> Result<(), Why> {
+    let want = form::row(p.verb, p.list).ok_or(Why::TooManyWords)?;
     if ends_list(p, w) {
-        return Why::Nothing;
+        return Ok(());
     }
     if p.count >= form::most(want) {
-        return Why::TooManyRows;
+        return Err(Why::TooManyRows);
     }
     wrong::wrong(want, w, rows)
 }
 
 // What is wrong with the word at this place.
-fn wrong_at(p: Place, w: &[u8], rows: u64) -> Why {
-    let verb = p.verb;
-    let want = form::fixed(verb, p.fixed);
-    if form::is_wanted(want) {
-        return wrong::wrong(want, w, rows);
+fn wrong_at(p: Place, w: &[u8], rows: u64) -> Result<(), Why> {
+    match form::fixed(p.verb, p.fixed) {
+        Some(want) => wrong::wrong(want, w, rows),
+        None => wrong_row(p, w, rows),
     }
-    wrong_row(p, w, rows)
 }
 
 // The place behind a word with which nothing is wrong.
 fn behind(p: Place, w: &[u8]) -> Place {
     let verb = p.verb;
-    if form::is_wanted(form::fixed(verb, p.fixed)) {
+    if form::fixed(verb, p.fixed).is_some() {
         return behind_fixed(p);
     }
     let mut q = p;
@@ -107,50 +98,30 @@ fn behind(p: Place, w: &[u8]) -> Place {
     q
 }
 
-// The word at or after `at`; it is empty at the line's end.
-fn word_in(line: &[u8], at: usize) -> Word
-    ensures from_le_to { result.from ≤ result.to }
-    ensures to_in_bounds { result.to ≤ length line.now }
-{
-    word::word_at(line, at)
-}
-
-fn is_unknown(verb: Verb) -> bool {
-    match verb {
-        Verb::Malformed => true,
-        _ => false,
-    }
-}
-
 // The first word behind the call's name that is wrong; where there is none, one is missing.
 fn wrong_behind(line: &[u8], at: usize, verb: Verb, rows: u64) -> Reason {
     let mut p = Place {
-        verb: verb,
+        verb,
         fixed: 0,
         list: 0,
         count: 0,
     };
     let mut i = at;
     let mut n: u64 = 2;
-    let mut turns = line.len();
-    while turns > 0 {
-        turns = turns - 1;
-        let w = word_in(line, i);
-        let from = w.from;
-        let to = w.to;
-        if from == to {
+    for _turn in 0..line.len() {
+        let (w, next) = word::first_at(line, i);
+        if w.is_empty() {
             break;
         }
-        p = place_of(p, &line[from..to]);
-        let why = wrong_at(p, &line[from..to], rows);
-        if !wrong::is_nothing(why) {
+        p = place_of(p, w);
+        if let Err(why) = wrong_at(p, w, rows) {
             return Reason {
                 word: n,
-                why: wrong::marked(&line[from..to], why),
+                why: wrong::marked(w, why),
             };
         }
-        p = behind(p, &line[from..to]);
-        i = to;
+        p = behind(p, w);
+        i = next;
         n = if n < 65536 { n + 1 } else { n };
     }
     Reason {
@@ -161,15 +132,13 @@ fn wrong_behind(line: &[u8], at: usize, verb: Verb, rows: u64) -> Reason {
 
 // The reason for a malformed line, for a program whose log has so many rows.
 pub fn of_line(line: &[u8], rows: u64) -> Reason {
-    let w = word_in(line, 0);
-    let from = w.from;
-    let to = w.to;
-    let verb = verb::named(&line[from..to]);
-    if is_unknown(verb) {
+    let (w, next) = word::first_at(line, 0);
+    let verb = verb::named(w);
+    if verb == Verb::Malformed {
         return Reason {
             word: 1,
-            why: wrong::marked(&line[from..to], Why::UnknownCall),
+            why: wrong::marked(w, Why::UnknownCall),
         };
     }
-    wrong_behind(line, to, verb, rows)
+    wrong_behind(line, next, verb, rows)
 }

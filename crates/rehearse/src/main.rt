@@ -4,13 +4,12 @@
 
 use std::env::FillError;
 use std::io;
-use std::rt::{CpuClock, Env, Files};
-use text::out;
+use std::rt::{Env, Files};
+use text::failed::Failed;
 
-// What the arguments ask for.
+// How large the log is that a run has.
 #[derive(Clone, Copy)]
-enum Asked {
-    Nothing,
+enum Log {
     Small,
     Large,
 }
@@ -22,9 +21,9 @@ fn print_help(rt: &impl Print) -> io::Result<()> {
     println!(rt; "docs/SCENARIOS.md has the form.")
 }
 
-fn help(rt: &(impl Print + Eprint)) {
-    if let Err(why) = print_help(rt) {
-        out::tell_failed(rt, "rehearse: standard output", why);
+fn tell(rt: &impl Eprint, ended: Result<(), Failed>) {
+    if let Err(why) = ended {
+        let _ = eprintln!(rt; "rehearse: {why}");
     }
 }
 
@@ -38,35 +37,30 @@ fn tell_unknown(err: &impl Print, word: &[u8]) -> io::Result<()> {
 // Is the stack's limit at least so many kilobytes? Else this is told.
 fn is_room(rt: &(impl Files + Alloc + Eprint), kilobytes: u64) -> bool {
     let room = limits::stack(rt) / 1024;
-    if room >= kilobytes {
-        return true;
+    if room < kilobytes {
+        let _ = eprintln!(rt;
+            "rehearse: the stack's limit is {room} KB, and this run needs {kilobytes} KB: ulimit -s {kilobytes}"
+        );
     }
-    let _ = eprintln!(rt;
-        "rehearse: the stack's limit is {room} KB, and this run needs {kilobytes} KB: ulimit -s {kilobytes}"
-    );
-    false
+    room >= kilobytes
 }
 
-fn asked_small(rt: &(impl Files + Alloc + Eprint)) -> Asked {
-    if is_room(rt, 4000) {
-        return Asked::Small;
+fn asked_by(
+    rt: &(impl Files + Alloc + Print + Eprint),
+    err: &impl Print,
+    word: &[u8],
+) -> Option<Log> {
+    match word {
+        b"large" => is_room(rt, 40000).then_some(Log::Large),
+        b"--help" => {
+            tell(rt, print_help(rt).map_err(Failed::Output));
+            None
+        }
+        _ => {
+            let _ = tell_unknown(err, word);
+            None
+        }
     }
-    Asked::Nothing
-}
-
-fn asked_by(rt: &(impl Files + Alloc + Print + Eprint), err: &impl Print, word: &[u8]) -> Asked {
-    if words::word::is_name(word, b"--help") {
-        help(rt);
-        return Asked::Nothing;
-    }
-    if !words::word::is_name(word, b"large") {
-        let _ = tell_unknown(err, word);
-        return Asked::Nothing;
-    }
-    if is_room(rt, 40000) {
-        return Asked::Large;
-    }
-    Asked::Nothing
 }
 
 // How many arguments there are, the program's name among them; 3 where there are more.
@@ -80,47 +74,26 @@ fn arg_count(rt: &impl Env) -> usize {
     3
 }
 
-// What the argument before the one numbered `i` asks for, of `count`, the program's name among them.
-fn asked_before(
-    rt: &(impl Files + Alloc + Env + Print + Eprint),
-    err: &impl Print,
-    i: usize,
-    count: usize,
-) -> Asked {
+// The run that the arguments ask for.
+fn asked(rt: &(impl Files + Alloc + Env + Print + Eprint), err: &impl Print) -> Option<Log> {
+    let count = arg_count(rt);
     if count < 2 {
-        return asked_small(rt);
+        return is_room(rt, 4000).then_some(Log::Small);
     }
     if count > 2 {
-        if i == count {
-            let _ = eprintln!(rt; "rehearse: one argument at most");
-        }
-        return Asked::Nothing;
+        let _ = eprintln!(rt; "rehearse: one argument at most");
+        return None;
     }
     let mut word = [0; 4096];
     let n = rt.arg(1, &mut word).unwrap_or(0);
     asked_by(rt, err, &word[..n])
 }
 
-// Runs what is asked for. A function that calls itself is compiled without the frames of the runs in
-// its own, so that the stack's limit is asked for before a run takes its part.
-fn run_before(
-    rt: &(impl Files + Alloc + Env + Input + Print + Eprint + CpuClock),
-    err: &impl Print,
-    i: usize,
-    count: usize,
-) {
-    if i > 2 {
-        run_before(rt, err, i - 1, count);
-    }
-    let asked = asked_before(rt, err, i, count);
-    match asked {
-        Asked::Nothing => {}
-        Asked::Small => scenario::run::with_small_log(rt),
-        Asked::Large => scenario::run::with_large_log(rt),
-    }
-}
-
+// The stack's limit is asked for before a run takes its part.
 fn main(rt: HostRuntime) {
-    let count = arg_count(&rt);
-    run_before(&rt, &rt.stderr(), count, count);
+    match asked(&rt, &rt.stderr()) {
+        Some(Log::Small) => tell(&rt, scenario::run::with_small_log(&rt)),
+        Some(Log::Large) => tell(&rt, scenario::run::with_large_log(&rt)),
+        None => {}
+    }
 }

@@ -2,5 +2,5 @@
 #![tactic(auto)]
 
 pub mod answer;
-pub mod list_answers;
+pub mod form;
 pub mod state;

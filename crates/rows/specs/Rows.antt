@@ -1,8 +1,8 @@
 -- Orders, quotes, vendor quotes, weights, costs and lots as words: the last rows of the table of words in docs/SCENARIOS.md. A word is a row
 -- where it has the row's number of parts and each part is of its form. Definitions only.
 use Rattle.std.specs.Prelude.{ℕ, cond, List, eqb, leb, Float, length}
-use Rattle.std.proofs.Math.Option.{Option, none, some, Option-elim}
-use Rattle.market.specs.Orders.{market_order, priced_order}
+use Rattle.std.specs.Prelude.{Option, None, Some}
+use Rattle.lists.specs.Lists.{given}
 use Rattle.market.specs.declared.order.Order.{Order}
 use Rattle.market.specs.declared.order.OrderType.{OrderType}
 use Rattle.market.specs.declared.order.OrderType.TheVariants.{MarketSell, MarketBuy, LimitSell, LimitBuy, StopSell, StopBuy}
@@ -13,56 +13,37 @@ use Rattle.costs.specs.declared.BrokerCost.{BrokerCost}
 use Rattle.costs.specs.declared.BrokerCost.TheVariants.{PerShare, PctOfValue, Flat}
 use Rattle.words.specs.Numbers.{some_if, whole_of, symbol_of, signed_of, float_of}
 use Rattle.words.specs.Words.{split, part_of, same_bytes, ascii}
-use Rattle.rows.specs.declared.KindRead.{KindRead}
-use Rattle.rows.specs.declared.KindRead.TheVariants.{Of as Kind, Malformed as NoKind}
-use Rattle.rows.specs.declared.PriceRead.{PriceRead}
-use Rattle.rows.specs.declared.PriceRead.TheVariants.{Of as Price, Unpriced, Malformed as NoPrice}
-use Rattle.rows.specs.declared.OrderRead.{OrderRead}
-use Rattle.rows.specs.declared.OrderRead.TheVariants.{Of as OrderRow, Malformed as NoOrder}
-use Rattle.rows.specs.declared.QuoteRead.{QuoteRead}
-use Rattle.rows.specs.declared.QuoteRead.TheVariants.{Of as QuoteRow, Malformed as NoQuote}
-use Rattle.rows.specs.declared.RevisionRead.{RevisionRead}
-use Rattle.rows.specs.declared.RevisionRead.TheVariants.{Of as Revision, Malformed as NoRevision}
-use Rattle.rows.specs.declared.VendorRead.{VendorRead}
-use Rattle.rows.specs.declared.VendorRead.TheVariants.{Of as VendorRow, Malformed as NoVendor}
-use Rattle.rows.specs.declared.WeightRead.{WeightRead}
-use Rattle.rows.specs.declared.WeightRead.TheVariants.{Of as WeightRow, Malformed as NoWeight}
-use Rattle.rows.specs.declared.CostRead.{CostRead}
-use Rattle.rows.specs.declared.CostRead.TheVariants.{Of as CostRow, Malformed as NoCost}
-use Rattle.rows.specs.declared.LotRead.{LotRead}
-use Rattle.rows.specs.declared.LotRead.TheVariants.{Of as LotWord, Malformed as NoLot}
 
 -- what is made of a word that has n parts
 abbrev pub of_parts : {A : Type 0} → ℕ → List ℕ → Option A → Option A
-of_parts n w x = cond (eqb (length (split 58 w)) n) x none
+of_parts n w x = cond (eqb (length (split 58 w)) n) x None
 
 -- what is made of a part that is of its form
 abbrev pub of_part : {A B : Type 0} → Option A → (A → Option B) → Option B
-of_part o f = Option-elim o none f
+of_part o f = given o None f
 
 -- KIND: market, limit or stop, buy or sell
 unfoldable pub kind_of : List ℕ → Option OrderType
 kind_of s =
-    cond (same_bytes s (ascii "mb")) (some MarketBuy)
-    (cond (same_bytes s (ascii "ms")) (some MarketSell)
-    (cond (same_bytes s (ascii "lb")) (some LimitBuy)
-    (cond (same_bytes s (ascii "ls")) (some LimitSell)
-    (cond (same_bytes s (ascii "sb")) (some StopBuy)
-    (cond (same_bytes s (ascii "ss")) (some StopSell)
-    none)))))
+    cond (same_bytes s (ascii "mb")) (Some MarketBuy)
+    (cond (same_bytes s (ascii "ms")) (Some MarketSell)
+    (cond (same_bytes s (ascii "lb")) (Some LimitBuy)
+    (cond (same_bytes s (ascii "ls")) (Some LimitSell)
+    (cond (same_bytes s (ascii "sb")) (Some StopBuy)
+    (cond (same_bytes s (ascii "ss")) (Some StopSell)
+    None)))))
 
 -- PRICE: a FLOAT, or `-` for none
 abbrev pub priced_at : Option Float → Option (Option Float)
-priced_at none = none
-priced_at (some x) = some (some x)
+priced_at None = None
+priced_at (Some x) = Some (Some x)
 
 unfoldable pub price_of : List ℕ → Option (Option Float)
-price_of s = cond (same_bytes s (ascii "-")) (some none) (priced_at (float_of s))
+price_of s = cond (same_bytes s (ascii "-")) (Some None) (priced_at (float_of s))
 
 -- ORDER: KIND:SYMBOL:SHARES:PRICE
 abbrev pub order_at : OrderType → ℕ → Float → Option Float → Order
-order_at kind symbol shares none = market_order kind symbol shares
-order_at kind symbol shares (some price) = priced_order kind symbol shares price
+order_at kind symbol shares price = record { kind = kind; symbol = symbol; shares = shares; price = price }
 
 unfoldable pub order_of : List ℕ → Option Order
 order_of w =
@@ -71,7 +52,7 @@ order_of w =
     of_part (symbol_of (part_of w 1)) (λ symbol.
     of_part (float_of (part_of w 2)) (λ shares.
     of_part (price_of (part_of w 3)) (λ price.
-    some (order_at kind symbol shares price))))))
+    Some (order_at kind symbol shares price))))))
 
 -- QUOTE: SYMBOL:BID:ASK:DATE
 unfoldable pub quote_of : List ℕ → Option Quote
@@ -81,7 +62,7 @@ quote_of w =
     of_part (float_of (part_of w 1)) (λ bid.
     of_part (float_of (part_of w 2)) (λ ask.
     of_part (signed_of (part_of w 3)) (λ date.
-    some (record { symbol = symbol; bid = bid; ask = ask; date = date }))))))
+    Some (record { symbol = symbol; bid = bid; ask = ask; date = date }))))))
 
 -- SYMBOL:BID:ASK:DATE, the first four parts of a word
 unfoldable pub quote_parts : List ℕ → Option Quote
@@ -90,12 +71,12 @@ quote_parts w =
     of_part (float_of (part_of w 1)) (λ bid.
     of_part (float_of (part_of w 2)) (λ ask.
     of_part (signed_of (part_of w 3)) (λ date.
-    some (record { symbol = symbol; bid = bid; ask = ask; date = date })))))
+    Some (record { symbol = symbol; bid = bid; ask = ask; date = date })))))
 
 -- REVISION: a WHOLE, at most 255
 abbrev pub revision_from : Option ℕ → Option ℕ
-revision_from none = none
-revision_from (some n) = some_if (leb n 255) n
+revision_from None = None
+revision_from (Some n) = some_if (leb n 255) n
 
 unfoldable pub revision_of : List ℕ → Option ℕ
 revision_of s = revision_from (whole_of s)
@@ -109,7 +90,7 @@ vendor_of w =
     of_parts 5 w
     (of_part (quote_parts w) (λ q.
     of_part (revision_of (part_of w 4)) (λ revision.
-    some (revised q revision))))
+    Some (revised q revision))))
 
 -- WEIGHT: SYMBOL:FLOAT
 unfoldable pub weight_of : List ℕ → Option Weight
@@ -117,15 +98,15 @@ weight_of w =
     of_parts 2 w
     (of_part (symbol_of (part_of w 0)) (λ symbol.
     of_part (float_of (part_of w 1)) (λ weight.
-    some (record { symbol = symbol; weight = weight }))))
+    Some (record { symbol = symbol; weight = weight }))))
 
 -- COST: per_share:FLOAT, pct_of_value:FLOAT or flat:FLOAT
 unfoldable pub cost_named : List ℕ → Float → Option BrokerCost
 cost_named s x =
-    cond (same_bytes s (ascii "per_share")) (some (PerShare x))
-    (cond (same_bytes s (ascii "pct_of_value")) (some (PctOfValue x))
-    (cond (same_bytes s (ascii "flat")) (some (Flat x))
-    none))
+    cond (same_bytes s (ascii "per_share")) (Some (PerShare x))
+    (cond (same_bytes s (ascii "pct_of_value")) (Some (PctOfValue x))
+    (cond (same_bytes s (ascii "flat")) (Some (Flat x))
+    None))
 
 unfoldable pub cost_of : List ℕ → Option BrokerCost
 cost_of w = of_parts 2 w (of_part (float_of (part_of w 1)) (λ x. cost_named (part_of w 0) x))
@@ -133,41 +114,3 @@ cost_of w = of_parts 2 w (of_part (float_of (part_of w 1)) (λ x. cost_named (pa
 -- lot:LOT: a WHOLE that 32 bits hold, as of a SYMBOL, behind the name
 unfoldable pub lot_of : List ℕ → Option ℕ
 lot_of w = of_parts 2 w (of_part (symbol_of (part_of w 1)) (λ n. some_if (same_bytes (part_of w 0) (ascii "lot")) n))
-
--- what the program's answers say
-abbrev pub kind_in : KindRead → Option OrderType
-kind_in (Kind k) = some k
-kind_in NoKind = none
-
-abbrev pub price_in : PriceRead → Option (Option Float)
-price_in (Price x) = some (some x)
-price_in Unpriced = some none
-price_in NoPrice = none
-
-abbrev pub order_in : OrderRead → Option Order
-order_in (OrderRow o) = some o
-order_in NoOrder = none
-
-abbrev pub quote_in : QuoteRead → Option Quote
-quote_in (QuoteRow q) = some q
-quote_in NoQuote = none
-
-abbrev pub revision_in : RevisionRead → Option ℕ
-revision_in (Revision n) = some n
-revision_in NoRevision = none
-
-abbrev pub vendor_in : VendorRead → Option VendorQuote
-vendor_in (VendorRow r) = some r
-vendor_in NoVendor = none
-
-abbrev pub weight_in : WeightRead → Option Weight
-weight_in (WeightRow w) = some w
-weight_in NoWeight = none
-
-abbrev pub cost_in : CostRead → Option BrokerCost
-cost_in (CostRow c) = some c
-cost_in NoCost = none
-
-abbrev pub lot_in : LotRead → Option ℕ
-lot_in (LotWord n) = some n
-lot_in NoLot = none

@@ -1,7 +1,7 @@
 -- Cost basis: document 01, section 4, as a fold of trades. Definitions only.
 use Rattle.std.specs.Prelude.{ℕ, cond, eqb, Float}
 use mathlib.Core.List.{List, foldl}
-use Rattle.std.proofs.Math.Option.{Option, none, some}
+use Rattle.std.specs.Prelude.{Option, None, Some}
 use Rattle.market.specs.Orders.{zero64}
 use Rattle.market.specs.declared.trade.Trade.{Trade}
 use Rattle.rules.specs.Amounts.{divided, is_zero}
@@ -24,7 +24,7 @@ basis_step s b x =
 
 -- none at zero, else value / quantity
 abbrev pub basis_of : Basis → Option Float
-basis_of b = cond (is_zero b.quantity) none (some (divided b.value b.quantity))
+basis_of b = cond (is_zero b.quantity) None (Some (divided b.value b.quantity))
 
 unfoldable pub cost_basis : List Trade → ℕ → Option Float
 cost_basis log s = basis_of (foldl (basis_step s) (record { quantity = zero64; value = zero64 }) log)

@@ -1,6 +1,6 @@
 -- Liquidation of an amount: document 01, section 4. Definitions only.
 use Rattle.std.specs.Prelude.{ℕ, cond, List, [], ◌∷◌, Float}
-use Rattle.std.proofs.Math.Option.{Option, none, some}
+use Rattle.std.specs.Prelude.{Option, None, Some}
 use Rattle.std.specs.Float.{binary64}
 use Rattle.std.specs.Float.Ieee.{of_bits}
 use Rattle.lists.specs.Lists.{given}
@@ -24,8 +24,8 @@ selling s shares w = record { orders = market_order MarketSell s shares ∷ w.or
 -- the walk stops at the first position whose value is not at or below the rest, selling rest / (bid rounded up), and the rest is 0;
 -- where that position has no latest quote, the rest stays as it is, and is not zero
 abbrev pub last_sale : Option Quote → ℕ → Float → Sales
-last_sale none s rest = record { orders = []; rest = rest }
-last_sale (some q) s rest = record { orders = market_order MarketSell s (divided rest (ceil_of q.bid)) ∷ []; rest = zero64 }
+last_sale None s rest = record { orders = []; rest = rest }
+last_sale (Some q) s rest = record { orders = market_order MarketSell s (divided rest (ceil_of q.bid)) ∷ []; rest = zero64 }
 
 -- positions are walked by symbol; a value (absent: 0) at or below the rest is sold whole and subtracted
 unfoldable pub sales_from : Money → List ℕ → Float → Sales
@@ -38,11 +38,11 @@ sales_from m (s ∷ l) rest =
 
 -- with rest 0 the orders are sent; otherwise fail
 abbrev pub if_spent : Sales → Option (List Order)
-if_spent w = cond (is_zero w.rest) (some w.orders) none
+if_spent w = cond (is_zero w.rest) (Some w.orders) None
 
 -- the orders of a liquidation: none where the amount exceeds `get_liquidation_value`, or where the walk leaves a rest
 unfoldable pub sales_for : Money → Float → Option (List Order)
-sales_for m amount = cond (below (liquidation_value m) amount) none (if_spent (sales_from m symbols amount))
+sales_for m amount = cond (below (liquidation_value m) amount) None (if_spent (sales_from m symbols amount))
 
 -- failing debits the amount from cash unless the amount exceeds cash
 unfoldable pub debited_by : Float → Money → Money

@@ -1,7 +1,7 @@
 -- What the rules of sections 4 and 5 read and move: costs, the lot, latest quotes, Failed, cash, holdings and pending quantities. Definitions only.
 use Rattle.std.specs.Prelude.{ℕ, Bool, ◌||◌, cond, eqb, Float}
 use mathlib.Core.List.{List, foldl}
-use Rattle.std.proofs.Math.Option.{Option, none, some}
+use Rattle.std.specs.Prelude.{Option, None, Some, unwrap_or}
 use Rattle.lists.specs.Lists.{given}
 use Rattle.market.specs.Orders.{zero64, is_sell}
 use Rattle.market.specs.declared.order.Order.{Order}
@@ -31,13 +31,12 @@ put m s v n = cond (eqb n s) v (m n)
 
 -- holding and pending absent read as 0.0
 abbrev pub or_zero : Option Float → Float
-or_zero none = zero64
-or_zero (some x) = x
+or_zero x = unwrap_or x zero64
 
 -- ---- latest quotes: each fetched row is its symbol's latest quote, those of other symbols kept
 
 abbrev pub fetch_one : (ℕ → Option Quote) → Quote → ℕ → Option Quote
-fetch_one m q = put m q.symbol (some q)
+fetch_one m q = put m q.symbol (Some q)
 
 unfoldable pub fetched : List Quote → Money → Money
 fetched t m = record { costs = m.costs; lot = m.lot; latest = foldl fetch_one m.latest t; failed = m.failed; cash = m.cash; held = m.held; pending = m.pending }
@@ -46,7 +45,7 @@ fetched t m = record { costs = m.costs; lot = m.lot; latest = foldl fetch_one m.
 -- Holding and pending are removed when a trade makes them zero; trade costs are not charged
 
 abbrev pub unless_zero : Float → Option Float
-unless_zero x = cond (is_zero x) none (some x)
+unless_zero x = cond (is_zero x) None (Some x)
 
 -- the amount is added for a buy, subtracted for a sale; and the other way round
 abbrev pub adding : TradeType → Float → Float → Float
@@ -89,7 +88,7 @@ expected o m =
       failed = m.failed;
       cash = m.cash;
       held = m.held;
-      pending = put m.pending o.symbol (some (given (m.pending o.symbol) (effect o) (λ p. plus p (effect o))));
+      pending = put m.pending o.symbol (Some (given (m.pending o.symbol) (effect o) (λ p. plus p (effect o))));
     }
 
 -- ---- Failed for good where a liquidation failed

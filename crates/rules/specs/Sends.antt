@@ -1,6 +1,6 @@
 -- Sends: document 01, section 4, and the sender's numbers. Definitions only.
-use Rattle.std.specs.Prelude.{Bool, true, false, not, ◌&&◌, List, [], ◌∷◌, ◌++◌, Float}
-use Rattle.std.proofs.Math.Option.{Option, none, some}
+use Rattle.std.specs.Prelude.{Bool, false, not, ◌&&◌, List, [], ◌∷◌, ◌++◌, Float}
+use Rattle.std.specs.Prelude.{Option, is_none}
 use Rattle.lists.specs.Lists.{given}
 use Rattle.market.specs.Faults.{Test, ◌draws◌}
 use Rattle.market.specs.Orders.{order_tests, is_sell, is_market}
@@ -17,15 +17,11 @@ exceeds_cash cash o quote = not (is_sell o.kind) && given quote false (λ q. not
 abbrev pub exceeds_holding : Order → Option Float → Bool
 exceeds_holding o holding = is_sell o.kind && given holding false (λ h. not (at_most o.shares h))
 
-abbrev pub missing : Option Quote → Bool
-missing none = true
-missing (some q) = false
-
 -- 4 broker Failed, 5 no latest quote, 6 limit or stop, 7 cash, 8 holding, 9 zero shares; then 10 and 11
 abbrev pub send_tests_at : Bool → Float → Option Quote → Option Float → Order → List Test
 send_tests_at failed cash quote holding o =
     (failed draws 4) ∷
-    (missing quote draws 5) ∷
+    (is_none quote draws 5) ∷
     (not (is_market o.kind) draws 6) ∷
     (exceeds_cash cash o quote draws 7) ∷
     (exceeds_holding o holding draws 8) ∷

@@ -1,7 +1,7 @@
 -- Values: document 01, section 4. Definitions only.
 use Rattle.std.specs.Prelude.{ℕ, false, Float}
 use mathlib.Core.List.{List, foldl}
-use Rattle.std.proofs.Math.Option.{Option, none, some}
+use Rattle.std.specs.Prelude.{Option, None, Some}
 use Rattle.lists.specs.Lists.{given, span}
 use Rattle.market.specs.declared.quote.Quote.{Quote}
 use Rattle.costs.specs.Costs.{trade_impact_total}
@@ -14,9 +14,9 @@ symbols = span 0 256
 
 -- a held symbol's value is latest bid × holding, absent without a latest quote
 abbrev pub value_at : Option Quote → Option Float → Option Float
-value_at none h = none
-value_at (some q) none = none
-value_at (some q) (some h) = some (times q.bid h)
+value_at None h = None
+value_at (Some q) None = None
+value_at (Some q) (Some h) = Some (times q.bid h)
 
 abbrev pub value_of : Money → ℕ → Option Float
 value_of m s = value_at (m.latest s) (m.held s)

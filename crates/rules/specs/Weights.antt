@@ -1,6 +1,6 @@
 -- Weights: document 01, section 5, and document 02, request 1. Definitions only.
 use Rattle.std.specs.Prelude.{ℕ, Bool, true, false, cond, List, [], ◌∷◌, ◌++◌, Float}
-use Rattle.std.proofs.Math.Option.{Option, none, some}
+use Rattle.std.specs.Prelude.{Option, None, Some, is_none, option_map, unwrap_or}
 use Rattle.lists.specs.Lists.{given}
 use Rattle.market.specs.Faults.{Test, ◌draws◌, drawn, unless_drawn}
 use Rattle.market.specs.Orders.{zero64, market_order}
@@ -24,12 +24,8 @@ shares_at lot costs d price is_buy =
     let net = trade_impact_total costs (size d) price is_buy in
     lot_shares lot (divided net.budget net.price)
 
--- shares of the other sign, where they are there
-abbrev pub negated_shares : Option Float → Option Float
-negated_shares x = given x none (λ y. some (negated y))
-
 unfoldable pub shares_for : ℕ → List BrokerCost → Float → Quote → Option Float
-shares_for lot costs d q = cond (below d zero64) (negated_shares (shares_at lot costs d q.bid false)) (shares_at lot costs d q.ask true)
+shares_for lot costs d q = cond (below d zero64) (option_map negated (shares_at lot costs d q.bid false)) (shares_at lot costs d q.ask true)
 
 -- positive is a buy, negative or NaN a sale of the size; zero shares list no order
 unfoldable pub order_for : ℕ → Float → List Order
@@ -39,29 +35,25 @@ order_for s x = cond (is_zero x) [] (cond (below zero64 x) (market_order MarketB
 abbrev pub difference : Money → Float → Weight → Float
 difference m v w = minus (times v w.weight) (or_zero (value_of m w.symbol))
 
--- what shares come to; missing where the shares are
-abbrev pub orders_for : ℕ → Option Float → Option (List Order)
-orders_for s x = given x none (λ y. some (order_for s y))
-
--- the orders of a row of weights: an unquoted symbol is passed over
+-- the orders of a row of weights: an unquoted symbol is passed over; missing where the shares are
 abbrev pub orders_at : ℕ → List BrokerCost → ℕ → Float → Option Quote → Option (List Order)
-orders_at lot costs s d q = given q (some []) (λ x. orders_for s (shares_for lot costs d x))
+orders_at lot costs s d q = given q (Some []) (λ x. option_map (order_for s) (shares_for lot costs d x))
 
 abbrev pub row_orders : Money → Float → Weight → Option (List Order)
 row_orders m d w = orders_at m.lot m.costs w.symbol d (m.latest w.symbol)
 
 -- a row's orders and those of the rows behind it; missing where either is
 abbrev pub then_rows : Option (List Order) → Option (List Order) → Option (List Order)
-then_rows none l = none
-then_rows (some k) none = none
-then_rows (some k) (some l) = some (k ++ l)
+then_rows None l = None
+then_rows (Some k) None = None
+then_rows (Some k) (Some l) = Some (k ++ l)
 
 -- a zero difference ends the walk
 unfoldable pub wanted : Money → Float → List Weight → Option (List Order)
-wanted m v [] = some []
+wanted m v [] = Some []
 wanted m v (w ∷ l) =
     let d = difference m v w in
-    cond (is_zero d) (some []) (then_rows (row_orders m d w) (wanted m v l))
+    cond (is_zero d) (Some []) (then_rows (row_orders m d w) (wanted m v l))
 
 -- what the walk comes to: the number drawn, or 0, and the orders
 pub record Plan : Type 0 where
@@ -70,7 +62,7 @@ pub record Plan : Type 0 where
 
 -- 13 where the liquidation value is zero, 18 where the walk meets a quotient that the lot does not round
 abbrev pub plan_tests : Float → Option (List Order) → List Test
-plan_tests v walk = (is_zero v draws 13) ∷ (given walk true (λ l. false) draws 18) ∷ []
+plan_tests v walk = (is_zero v draws 13) ∷ (is_none walk draws 18) ∷ []
 
 -- no order is listed where a number is drawn
 abbrev pub plan_as : ℕ → List Order → Plan
@@ -81,4 +73,4 @@ unfoldable pub plan_of : Money → List Weight → Plan
 plan_of m l =
     let v = liquidation_value m in
     let walk = wanted m v l in
-    plan_as (drawn (plan_tests v walk)) (sells_first (given walk [] (λ o. o)))
+    plan_as (drawn (plan_tests v walk)) (sells_first (unwrap_or walk []))

@@ -2,8 +2,6 @@
 // docs/SCENARIOS.md has the form.
 #![tactic(auto)]
 
-pub mod plain_lines;
 pub mod run;
 pub mod show;
-pub mod stand;
 pub mod view;

@@ -1,173 +1,226 @@
 // A scenario's run: line by line a call is made and answered, and what the broker holds is shown.
-ghost use Rattle.std.specs.Prelude.{◌≡◌};
+ghost use Rattle.std.specs.Prelude.{◌≤◌};
 
-use crate::plain_lines::Run;
-use crate::show::Shown;
-use crate::view::View;
-use crate::{plain_lines, show, stand, view};
+use crate::show;
+use crate::view::{View, is_call};
+use arrays::clock;
 use broker::state::UistBroker;
 use calls::call::Call;
-use dispatch::line_lists::Job;
-use dispatch::list_calls::Done;
-use dispatch::{line_lists, log_calls};
+use calls::verb::Verb;
+use costs::TradeCosts;
+use dispatch::{list_calls, log_calls, plain_calls};
+use market::table::ReadTable;
 use market::trade::Trade;
+use report::answer::Reply;
+use report::form::Form;
 use std::io;
+use std::io::{BufWriter, Read, Write};
 use std::time::CpuClock;
-use text::out;
+use text::failed::Failed;
+use text::input::{Input, Line};
 
-pub(crate) fn started() -> Run {
-    let b = view::first_broker();
-    let s = stand::start();
-    Run {
-        broker: b,
-        stand: s,
-        job: line_lists::no_job(),
-    }
+// A run beside its input, its broker and its log: what tells the time, where the answers go, and what
+// is kept.
+#[derive(Drop)]
+struct Session<'a, R, W> {
+    rt: &'a R,
+    out: W,
+    view: View,
 }
 
-pub(crate) fn broker_at(r: Run) -> UistBroker {
-    r.broker
-}
-
-pub(crate) fn job_at(r: Run) -> Job {
-    r.job
-}
-
-pub(crate) fn call_at(r: Run) -> Call {
-    let j = r.stand;
-    j.call
-}
-
-pub(crate) fn put_at(r: Run) -> usize {
-    let s = r.stand;
-    s.at
-}
-
-// What is kept before the call of the line that was found.
-pub(crate) fn view_before(r: Run) -> View {
-    let s = r.stand;
-    view::before(s.view, s.call)
-}
-
-pub(crate) fn done_at(d: Done) -> usize {
-    d.at
-}
-
-pub(crate) fn stands(r: Run, b: UistBroker, x: Shown) -> Run {
-    let mut s = r.stand;
-    let v = x.view;
-    s.view = v;
-    s.at = x.at;
-    let j = r.job;
-    Run {
-        broker: b,
-        stand: s,
-        job: j,
-    }
-}
-
-// Is there no line to come, or no way to answer it?
-pub(crate) fn is_over(r: Run) -> bool {
-    stand::is_over(r.stand)
-}
-
-// A line that the log is lent to, or after which what the broker holds is shown.
-fn run_logged(
-    rt: &(impl Print + Eprint + CpuClock),
-    t: &mut [u8; 65536],
-    r: Run,
-    log: &mut [Trade],
-) -> Run {
-    let j = job_at(r);
-    let c = call_at(r);
-    let v = view_before(r);
-    let n = arrays::at_most(view::rows(v), log.len());
-    let d = log_calls::writing_call(rt, t, put_at(r), broker_at(r), j, &mut log[..n]);
-    let e = log_calls::reading_call(rt, t, d, j, &log[..n]);
-    let b = log_calls::broker_in(e);
-    let w = view::after(v, c, e);
-    let s = show::show_state(rt, t, done_at(e), w, b, c, &log[..n]);
-    stands(r, b, s)
-}
-
-pub(crate) fn finish(rt: &(impl Print + Eprint), t: &mut [u8; 65536], r: Run) {
-    let at = put_at(r);
-    out::flush(rt, t, at);
-}
-
-// Runs the scenario on standard input, with a log of at most so many rows. A proved loop has to end,
-// so it counts its turns down, from a number that no input uses up.
-fn run_lines(
-    rt: &(impl io::Input + Print + Eprint + CpuClock),
-    bytes: &mut [u8; 65536],
-    t: &mut [u8; 65536],
-    log: &mut [Trade],
-) {
-    let mut r = started();
-    let mut turns = stand::all_turns();
-    while turns > 0 {
-        r = plain_lines::run_plain(rt, bytes, t, r, log.len());
-        if is_over(r) {
-            break;
+impl<R: CpuClock, W: Write> Session<'_, R, W> {
+    // Writes the head of a line's answer, its number and its first word or `malformed`, and says when
+    // the line's call began.
+    fn begin(&mut self, line: Line<'_>, c: &Call) -> io::Result<Option<u64>> {
+        let number = line.number;
+        match c.verb {
+            Verb::Blank => return Ok(None),
+            Verb::Malformed => write!(self.out, "{number} malformed")?,
+            _ => {
+                write!(self.out, "{number} ")?;
+                self.out.write_all(line.first_word())?;
+            }
         }
-        r = run_logged(rt, t, r, log);
-        turns = turns - 1;
+        Ok(clock::now(self.rt))
     }
-    finish(rt, t, r);
+
+    // A call that began at `from` was made, and is answered.
+    fn reply(&mut self, from: Option<u64>, reply: Reply) -> io::Result<()> {
+        self.view.count(clock::since(self.rt, from));
+        writeln!(self.out, " {reply}")
+    }
+
+    // A liquidation, an insertion, or a deletion. It is answered first, so that its time is without the
+    // copy of what it leaves.
+    fn change(&mut self, from: Option<u64>, b: &mut UistBroker, c: &Call) -> io::Result<()> {
+        match c.verb {
+            Verb::Liquidate => {
+                let x = b.withdraw_cash_with_liquidation(c.amount);
+                self.reply(from, Reply::Cash(x.event))?;
+                *b = x.broker;
+            }
+            Verb::Insert => {
+                let x = b.insert_order(c.order);
+                self.reply(from, Reply::Event(x.event))?;
+                *b = x.broker;
+            }
+            _ => {
+                let x = b.delete_order(c.whole);
+                self.reply(from, Reply::Deleted(x.fault))?;
+                *b = x.broker;
+            }
+        }
+        Ok(())
+    }
+
+    // A line whose call the log is lent to.
+    fn log_call(
+        &mut self,
+        b: &mut UistBroker,
+        line: &[u8],
+        c: &Call,
+        log: &mut [Trade],
+    ) -> io::Result<()> {
+        if matches!(c.verb, Verb::New) {
+            self.view.renew(c.log as usize);
+        }
+        let rows = self.view.rows.min(log.len());
+        let micros = log_calls::call(self.rt, &mut self.out, b, line, c, &mut log[..rows])?;
+        self.view.count(micros);
+        Ok(())
+    }
+
+    // A line whose call is answered by a list, and needs no log.
+    fn list_call(&mut self, b: &mut UistBroker, line: &[u8], c: &Call) -> io::Result<()> {
+        let micros = match c.verb {
+            Verb::SendList => list_calls::send_list(self.rt, &mut self.out, b, line, c)?,
+            _ => list_calls::list(self.rt, &mut self.out, b, line, c)?,
+        };
+        self.view.count(micros);
+        Ok(())
+    }
+
+    // A line that is no deposit, withdrawal or order.
+    #[inline(never)]
+    fn answer(
+        &mut self,
+        from: Option<u64>,
+        b: &mut UistBroker,
+        line: Line<'_>,
+        c: &Call,
+        log: &mut [Trade],
+    ) -> io::Result<()> {
+        match c.verb {
+            Verb::Malformed => {
+                let reason = Form(line.reason(log.len()));
+                writeln!(self.out, " {reason}")
+            }
+            Verb::Liquidate | Verb::Insert | Verb::Delete => self.change(from, b, c),
+            _ if !is_call(c) => self.view.set(&mut self.out, c),
+            _ if log_calls::needs_log(c) => self.log_call(b, line.bytes(), c, log),
+            _ if list_calls::is_listed(c) => self.list_call(b, line.bytes(), c),
+            _ => self.reply(from, plain_calls::ask(b, c)),
+        }
+    }
+
+    // Shows what the broker holds, where this line asks for it.
+    fn show(&mut self, b: &UistBroker, c: &Call, log: &[Trade]) -> io::Result<()> {
+        if !self.view.shows(c) {
+            return Ok(());
+        }
+        let rows = self.view.rows.min(log.len());
+        show::show(&mut self.out, &mut self.view, b, &log[..rows])
+    }
+
+    // The next line: what was answered is written before it is waited for.
+    fn next_line<'i>(
+        &mut self,
+        input: &'i mut Input<impl Read + Drop>,
+    ) -> Result<Option<Line<'i>>, Failed> {
+        if input.waits() {
+            self.out.flush()?;
+        }
+        input.next_line().map_err(Failed::Input)
+    }
+
+    // Answers the input's lines. The broker that a deposit, a withdrawal or an order leaves is kept at
+    // once: behind another function it would be copied, which takes longer than the call.
+    fn run_lines(
+        &mut self,
+        input: &mut Input<impl Read + Drop>,
+        log: &mut [Trade],
+    ) -> Result<(), Failed> {
+        let mut b = first_broker();
+        // A proved loop has to end, so it counts lines up to a number that no input reaches.
+        for _ in 0..u64::MAX {
+            let Some(line) = self.next_line(input)? else {
+                break;
+            };
+            let c = line.call(log.len());
+            let from = self.begin(line, &c)?;
+            match c.verb {
+                Verb::Blank => continue,
+                Verb::Deposit => {
+                    let x = b.deposit_cash(c.amount);
+                    b = x.broker;
+                    self.reply(from, Reply::Cash(x.event))?;
+                }
+                Verb::Withdraw => {
+                    let x = b.withdraw_cash(c.amount);
+                    b = x.broker;
+                    self.reply(from, Reply::Cash(x.event))?;
+                }
+                Verb::Send => {
+                    let x = b.send_order(c.order);
+                    b = x.broker;
+                    self.reply(from, Reply::Event(x.event))?;
+                }
+                _ => self.answer(from, &mut b, line, &c, log)?,
+            }
+            self.show(&b, &c, log)?;
+        }
+        Ok(self.out.flush()?)
+    }
 }
 
-pub(crate) fn small_log() -> [Trade; 65536] {
-    let t = Trade::blank();
-    [t; 65536]
+// The broker before the first `new`: no log, no quotes.
+fn first_broker() -> UistBroker {
+    UistBroker::build(TradeCosts::none(), 1, ReadTable::empty(), 0).broker
 }
 
-pub(crate) fn small_rows() -> usize
-    ensures { result ≡ 65536 }
+// Runs the scenario on standard input, with a log of so many rows. They stand on the stack, so they are
+// no part of the frame of `main`, which asks for the stack's limit first.
+#[inline(never)]
+fn run<const ROWS: usize>(
+    rt: &(impl AllocGlobal + io::Input + Print + CpuClock),
+) -> Result<(), Failed>
+    requires { ROWS ≤ 1048576 }
 {
-    65536
-}
-
-fn run_small(
-    rt: &(impl io::Input + Print + Eprint + CpuClock),
-    bytes: &mut [u8; 65536],
-    t: &mut [u8; 65536],
-) {
-    let mut log = small_log();
-    let n = small_rows();
-    run_lines(rt, bytes, t, &mut log[..n]);
+    let mut log = [Trade::blank(); ROWS];
+    let mut input = Input::new(rt.alloc(), rt.reader()).map_err(Failed::Input)?;
+    let mut session = Session {
+        rt,
+        out: BufWriter::with_capacity(rt.alloc(), 65536, io::writer(rt))?,
+        view: View::new(),
+    };
+    let result = session.run_lines(&mut input, &mut log);
+    if result.is_err() {
+        // What could not be written is not tried again.
+        let _ = session.out.into_parts();
+    }
+    result
 }
 
 // A run whose log has at most 65,536 rows.
-pub fn with_small_log(rt: &(impl io::Input + Print + Eprint + CpuClock)) {
-    let mut bytes = [0; 65536];
-    let mut t = [0; 65536];
-    run_small(rt, &mut bytes, &mut t);
-}
-
-pub(crate) fn large_log() -> [Trade; 1048576] {
-    let t = Trade::blank();
-    [t; 1048576]
-}
-
-pub(crate) fn large_rows() -> usize
-    ensures { result ≡ 1048576 }
-{
-    1048576
-}
-
-fn run_large(
-    rt: &(impl io::Input + Print + Eprint + CpuClock),
-    bytes: &mut [u8; 65536],
-    t: &mut [u8; 65536],
-) {
-    let mut log = large_log();
-    let n = large_rows();
-    run_lines(rt, bytes, t, &mut log[..n]);
+pub fn with_small_log(
+    rt: &(impl AllocGlobal + io::Input + Print + CpuClock),
+) -> Result<(), Failed> {
+    run::<65536>(rt)
 }
 
 // A run whose log has at most 1,048,576 rows.
-pub fn with_large_log(rt: &(impl io::Input + Print + Eprint + CpuClock)) {
-    let mut bytes = [0; 65536];
-    let mut t = [0; 65536];
-    run_large(rt, &mut bytes, &mut t);
+pub fn with_large_log(
+    rt: &(impl AllocGlobal + io::Input + Print + CpuClock),
+) -> Result<(), Failed> {
+    run::<1048576>(rt)
 }

@@ -3,13 +3,12 @@
 #![tactic(auto)]
 
 ghost use Rattle.std.specs.Prelude.{◌≡◌};
-ghost use Rattle.std.proofs.Math.Option.{some};
+ghost use Rattle.std.specs.Prelude.{Some};
 ghost use Rattle.market.specs.Faults.{unless_drawn};
 ghost use Rattle.market.specs.Orders.{event_of};
-ghost use Rattle.market.specs.Trades.{row_if};
 ghost use Rattle.rules.specs.Money.{unless_zero};
 ghost use Rattle.rules.specs.Sends.{exceeds_cash, exceeds_holding};
-ghost use Rattle.sender.specs.Sender.{quote_in, event_at, pending_after};
+ghost use Rattle.sender.specs.Sender.{event_at, pending_after};
 
 pub mod sound;
 
@@ -17,18 +16,10 @@ use exchange::state::Counts;
 use market::order::{Order, OrderEvent};
 use market::quote::Quote;
 
-// The latest quote of a symbol.
-#[derive(Clone, Copy)]
-pub enum Latest {
-    At(Quote),
-    Unquoted,
-}
-
-// What an order's tests read at its symbol: the latest row, if `present`, and the holding.
+// What an order's tests read at its symbol: the latest row, and the holding.
 #[derive(Clone, Copy)]
 pub struct AtSymbol {
-    pub present: bool,
-    pub quote: Quote,
+    pub quote: Option<Quote>,
     pub holding: f64,
 }
 
@@ -36,26 +27,12 @@ pub struct AtSymbol {
 pub fn event(order: Order, fault: u32) -> OrderEvent
     ensures { result ≡ event_of order fault }
 {
-    OrderEvent {
-        order: order,
-        fault: fault,
-    }
-}
-
-fn latest_of(x: AtSymbol) -> Latest
-    ensures { quote_in result ≡ row_if x.present x.quote }
-{
-    if x.present {
-        let q = x.quote;
-        Latest::At(q)
-    } else {
-        Latest::Unquoted
-    }
+    OrderEvent { order, fault }
 }
 
 // A buy that cash does not cover.
 fn exceeds_cash(o: Order, cash: f64, q: Quote) -> bool
-    ensures { result ≡ exceeds_cash cash o (some q) }
+    ensures { result ≡ exceeds_cash cash o (Some q) }
 {
     if o.is_sell() {
         return false;
@@ -77,6 +54,7 @@ fn exceeds_holding(o: Order, holding: f64) -> bool
 }
 
 // The event of an order in a broker that does not draw 16: 1, 2, 4 to 11, or 0.
+#[tactic(auto, unfolding(crate::specs::Sender::event_at, market::specs::Faults::drawn))]
 pub fn send_event(o: Order, failed: bool, cash: f64, x: AtSymbol, counts: Counts) -> OrderEvent
     ensures { result ≡ event_at o failed cash x counts }
 {
@@ -87,7 +65,7 @@ pub fn send_event(o: Order, failed: bool, cash: f64, x: AtSymbol, counts: Counts
     if failed {
         return event(o, 4);
     }
-    let Latest::At(q) = latest_of(x) else {
+    let Some(q) = x.quote else {
         return event(o, 5);
     };
     if !o.is_market() {
@@ -123,13 +101,13 @@ pub fn sound_event(
 }
 
 // A symbol's pending quantity with an order's effect.
-pub fn pending_after(o: Order, awaited: bool, pending: f64) -> f64
-    ensures { result ≡ pending_after o awaited pending }
+#[tactic(auto, unfolding(crate::specs::Sender::pending_after))]
+pub fn pending_after(o: Order, pending: Option<f64>) -> f64
+    ensures { result ≡ pending_after o pending }
 {
-    let shares = o.shares;
-    if o.is_sell() {
-        if awaited { pending + -shares } else { -shares }
-    } else {
-        if awaited { pending + shares } else { shares }
+    let effect = if o.is_sell() { -o.shares } else { o.shares };
+    match pending {
+        Some(sum) => sum + effect,
+        None => effect,
     }
 }

@@ -7,6 +7,7 @@ use exchange::state::Counts;
 use floats::lot;
 
 // 16, or 0.
+#[tactic(auto, unfolding(market::specs::Faults::drawn))]
 pub fn fault(counts: Counts, lot: u32) -> u32
     ensures { result ≡ sound_fault counts lot }
 {

@@ -1,2 +1,13 @@
-// No code: the laws of rows that are copied to and from lent slices, row after row, in proofs/.
+// Rows, copied to part of a lent list.
 #![tactic(auto)]
+
+ghost use Rattle.std.specs.Prelude.{◌≡◌, ◌+◌, ◌≤◌, length};
+ghost use Rattle.lists.specs.Lists.{stored};
+
+// Stores the rows in the list, from the place `at` on.
+pub fn store<T: Copy>(list: &mut [T], at: usize, rows: &[T])
+    requires { at + length rows.now ≤ length list.old }
+    ensures { list.new ≡ stored list.old at rows.now }
+{
+    list[at..at + rows.len()].copy_from_slice(rows);
+}

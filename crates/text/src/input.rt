@@ -1,273 +1,122 @@
-// Lines of standard input, as parts of a lent buffer.
-ghost use Rattle.std.specs.Prelude.{◌≤◌};
+// Lines of standard input, each read as the call that it makes.
+ghost use Rattle.std.specs.Prelude.{◌≡◌, ◌≤◌, ◌+◌, min, true, Ok, None, IsNone, IfOk, IfSome};
+ghost use Rattle.calls.specs.declared.verb.Verb.TheVariants.{Malformed};
+ghost use Rattle.calls.specs.Calls.{plain_call};
 
-use crate::out;
 use calls::call;
 use calls::call::Call;
 use calls::verb::Verb;
 use reasons::Reason;
+use std::alloc::Global;
 use std::io;
-use std::io::Read;
-use words::word;
-use words::word::Word;
+use std::io::{BufRead, BufReader, Read};
 
-// The bytes read so far are the first `filled`. Where there is a line (`found`), it is from `start`
-// to before `end`, and `line` is its number; the bytes from `next` on are of later lines. A line that
-// does not fit is `long`; while its end is looked for, `skips`.
+// A line without its newline, and its number; no text where it is too long.
 #[derive(Clone, Copy)]
-pub struct Input {
-    pub filled: usize,
-    pub start: usize,
-    pub end: usize,
-    pub next: usize,
-    pub line: u64,
-    pub found: bool,
-    pub long: bool,
-    pub skips: bool,
-    pub ended: bool,
-    pub open: bool,
+pub struct Line<'a> {
+    pub number: u64,
+    pub text: Option<&'a [u8]>,
 }
 
-pub fn start() -> Input {
-    Input {
-        filled: 0,
-        start: 0,
-        end: 0,
-        next: 0,
-        line: 0,
-        found: false,
-        long: false,
-        skips: false,
-        ended: false,
-        open: true,
+impl<'a> Line<'a> {
+    // The line's bytes; none where it is too long.
+    pub fn bytes(self) -> &'a [u8] {
+        self.text.unwrap_or(b"")
     }
-}
 
-// Where the first newline from `at` to before `filled` is, or `filled`.
-fn line_end(bytes: &[u8], at: usize, filled: usize) -> usize {
-    let mut i = at;
-    while i < bytes.len() {
-        if i >= filled {
-            break;
-        }
-        if bytes[i] == b'\n' {
-            return i;
-        }
-        i = i + 1;
+    pub fn first_word(self) -> &'a [u8] {
+        self.bytes()
+            .split(|b| *b == b' ')
+            .find(|w| !w.is_empty())
+            .unwrap_or(b"")
     }
-    filled
-}
 
-// The line from `next` to before `end`.
-fn line_before(x: Input, end: usize) -> Input {
-    let mut y = x;
-    y.start = x.next;
-    y.end = end;
-    y.next = end;
-    if end < x.filled {
-        y.next = end + 1;
-    }
-    if x.line < 18446744073709551615 {
-        y.line = x.line + 1;
-    }
-    y.found = true;
-    y.long = x.skips;
-    y.skips = false;
-    y
-}
-
-// The next of the lines that were read; none where more has to be read, and not `open` once there is
-// none to come.
-pub fn next(bytes: &[u8], x: Input) -> Input {
-    let end = line_end(bytes, x.next, x.filled);
-    if end < x.filled {
-        return line_before(x, end);
-    }
-    if x.ended {
-        if x.next < x.filled || x.skips {
-            return line_before(x, end);
-        }
-    }
-    let mut y = x;
-    y.found = false;
-    y.open = !x.ended;
-    y
-}
-
-// Is there no line before more is read?
-pub fn is_short(x: Input) -> bool {
-    x.open && !x.found
-}
-
-// Moves the bytes from `from` to before `filled` to the front.
-fn move_down(bytes: &mut [u8], from: usize, filled: usize) {
-    let mut i: usize = 0;
-    let mut j = from;
-    while j < bytes.len() {
-        if j >= filled {
-            break;
-        }
-        if i >= j {
-            break;
-        }
-        bytes[i] = bytes[j];
-        i = i + 1;
-        j = j + 1;
-    }
-}
-
-// How many bytes came, and whether the read failed.
-#[derive(Clone, Copy)]
-struct Got {
-    count: usize,
-    failed: bool,
-}
-
-// Reads behind the first `filled` bytes. A read that fails is told on standard error.
-fn read_more(rt: &(impl io::Input + Eprint), bytes: &mut [u8], filled: usize) -> Got {
-    if filled > bytes.len() {
-        return Got {
-            count: 0,
-            failed: false,
+    // The call that the line makes, for a program whose log has so many rows.
+    #[tactic(auto, unfolding(calls::specs::Calls::plain_call))]
+    pub fn call(self, rows: usize) -> Call
+        ensures too_long { IsNone self.entry.text → result ≡ plain_call Malformed }
+        ensures in_log { result.log ≤ rows }
+    {
+        let Some(line) = self.text else {
+            return call::plain(Verb::Malformed);
         };
+        if line.starts_with(b"#") {
+            return call::plain(Verb::Blank);
+        }
+        let c = call::of_line(line);
+        if c.log > rows as u64 {
+            return call::plain(Verb::Malformed);
+        }
+        c
     }
-    match rt.reader().read(&mut bytes[filled..]) {
-        Ok(count) => Got {
-            count: count,
-            failed: false,
-        },
-        Err(why) => {
-            out::tell_failed(rt, "rehearse: standard input", why);
-            Got {
-                count: 0,
-                failed: true,
-            }
+
+    // Why the line is malformed, for a program whose log has so many rows.
+    pub fn reason(self, rows: usize) -> Reason {
+        match self.text {
+            Some(line) => reasons::of_line(line, rows as u64),
+            None => reasons::too_long(),
         }
     }
 }
 
-// The bytes behind the last line: how many there are. A buffer full of one line has none: its bytes
-// go, and its end is looked for.
-fn left(x: Input) -> usize {
-    if x.next == 0 && x.filled == 65536 {
-        return 0;
-    }
-    if x.next > x.filled {
-        return 0;
-    }
-    x.filled - x.next
+// A reader of lines. `line` is the one that was read last, and `number` says how many were; once one
+// lacks its newline, the input has ended.
+#[derive(Drop)]
+pub struct Input<R> {
+    reader: BufReader<R>,
+    line: Vec<u8>,
+    number: u64,
+    has_ended: bool,
 }
 
-// Reads more, behind the bytes that are left, which go to the front. After a read that failed there
-// is no line to come.
-pub fn refilled(rt: &(impl io::Input + Eprint), bytes: &mut [u8; 65536], x: Input) -> Input {
-    let kept = left(x);
-    move_down(bytes, x.next, x.filled);
-    let got = read_more(rt, bytes, kept);
-    let mut y = x;
-    y.skips = x.skips || (x.next == 0 && x.filled == 65536);
-    y.next = 0;
-    y.filled = 65536;
-    if kept < 65536 {
-        if got.count <= 65536 - kept {
-            y.filled = kept + got.count;
+// The most bytes that a line may have, its newline among them.
+const ROOM: usize = 65536;
+
+impl<R: Read + Drop> Input<R> {
+    pub fn new(alloc: Global, reader: R) -> io::Result<Input<R>> {
+        Ok(Input {
+            reader: BufReader::with_capacity(alloc, ROOM, reader)?,
+            line: Vec::with_capacity(alloc, ROOM)?,
+            number: 0,
+            has_ended: false,
+        })
+    }
+
+    // Does the next line have to be waited for?
+    pub fn waits(&self) -> bool {
+        !self.reader.buffer().contains(&b'\n')
+    }
+
+    // Reads the next line; none once the input has ended. Of a line that is too long the rest is
+    // passed over.
+    pub fn next_line(&mut self) -> io::Result<Option<Line<'_>>>
+        ensures ended { self.old.has_ended ≡ true → result ≡ Ok None }
+        ensures number { IfOk result (λ found. IfSome found (λ line. line.number ≡ min (self.old.number + 1) 18446744073709551615)) }
+    {
+        if self.has_ended {
+            return Ok(None);
         }
+        self.line.clear();
+        self.reader
+            .by_ref()
+            .take(ROOM as u64)
+            .read_until(b'\n', &mut self.line)?;
+        if self.line.is_empty() {
+            return Ok(None);
+        }
+        self.number = self.number.saturating_add(1);
+        let number = self.number;
+        let has_newline = self.line.ends_with(b"\n");
+        if !has_newline && self.line.len() == ROOM {
+            self.reader.skip_until(b'\n')?;
+            return Ok(Some(Line { number, text: None }));
+        }
+        self.has_ended = !has_newline;
+        let line = self.line.as_slice();
+        let text = line.strip_suffix(b"\n").unwrap_or(line);
+        Ok(Some(Line {
+            number,
+            text: Some(text),
+        }))
     }
-    y.ended = got.count == 0;
-    y.open = !got.failed;
-    y.found = false;
-    y
-}
-
-// Where the line that was found is, in a buffer of this length.
-pub fn line(x: Input, length: usize) -> Word
-    ensures from_le_to { result.from ≤ result.to }
-    ensures to_in_bounds { result.to ≤ length }
-{
-    if x.start > x.end || x.end > length {
-        return Word { from: 0, to: 0 };
-    }
-    Word {
-        from: x.start,
-        to: x.end,
-    }
-}
-
-fn is_comment(line: &[u8]) -> bool {
-    if line.len() == 0 {
-        return false;
-    }
-    line[0] == b'#'
-}
-
-fn call_of(line: &[u8], rows: usize) -> Call {
-    if is_comment(line) {
-        return call::plain(Verb::Blank);
-    }
-    let c = call::of_line(line);
-    if c.log > rows as u64 {
-        return call::plain(Verb::Malformed);
-    }
-    c
-}
-
-// The call of the line that was found, for a program whose log has so many rows.
-pub fn call_in(bytes: &[u8], x: Input, rows: usize) -> Call {
-    if !x.found {
-        return call::plain(Verb::Blank);
-    }
-    if x.long {
-        return call::plain(Verb::Malformed);
-    }
-    let w = line(x, bytes.len());
-    let from = w.from;
-    let to = w.to;
-    call_of(&bytes[from..to], rows)
-}
-
-fn put_verb(rt: &(impl Print + Eprint), out: &mut [u8; 65536], at: usize, line: &[u8]) -> usize {
-    let w = word::word_at(line, 0);
-    let from = w.from;
-    let to = w.to;
-    out::put(rt, out, at, &line[from..to])
-}
-
-fn is_malformed(c: Call) -> bool {
-    let verb = c.verb;
-    match verb {
-        Verb::Malformed => true,
-        _ => false,
-    }
-}
-
-// Puts the head of the answer to the line that was found: its number, and its first word or
-// `malformed`.
-pub fn put_head(
-    rt: &(impl Print + Eprint),
-    out: &mut [u8; 65536],
-    at: usize,
-    bytes: &[u8],
-    x: Input,
-    c: Call,
-) -> usize {
-    let mut n = out::put_whole(rt, out, at, x.line);
-    n = out::put(rt, out, n, b" ");
-    if is_malformed(c) {
-        return out::put(rt, out, n, b"malformed");
-    }
-    let w = line(x, bytes.len());
-    let from = w.from;
-    let to = w.to;
-    put_verb(rt, out, n, &bytes[from..to])
-}
-
-// Why the line that was found is malformed, for a program whose log has so many rows.
-pub fn reason_in(bytes: &[u8], x: Input, rows: usize) -> Reason {
-    if x.long {
-        return reasons::too_long();
-    }
-    let w = line(x, bytes.len());
-    let from = w.from;
-    let to = w.to;
-    reasons::of_line(&bytes[from..to], rows as u64)
 }

@@ -1,6 +1,6 @@
-// Text in and out: lines of standard input as calls, and what is written of orders, quotes, trades
-// and numbers. docs/SCENARIOS.md has the forms.
+// Text in and out: standard input's lines as calls, and what keeps a run from its end.
+// docs/SCENARIOS.md has the forms.
 #![tactic(auto)]
 
+pub mod failed;
 pub mod input;
-pub mod out;

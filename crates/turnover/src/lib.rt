@@ -3,7 +3,7 @@
 #![tactic(auto)]
 
 ghost use Rattle.std.specs.Prelude.{◌≡◌};
-ghost use Rattle.turnover.specs.Turnover.{no_sums, add_sums, lesser};
+ghost use Rattle.turnover.specs.Turnover.{no_sums, add_sums, turnover_sums, lesser};
 
 use market::trade::{Trade, TradeType};
 
@@ -14,35 +14,47 @@ pub struct Sums {
     pub sold: f64,
 }
 
-pub fn no_sums() -> Sums
-    ensures { result ≡ no_sums }
-{
-    Sums {
-        bought: 0.0,
-        sold: 0.0,
+impl Sums {
+    pub fn none() -> Sums
+        ensures { result ≡ no_sums }
+    {
+        Sums {
+            bought: 0.0,
+            sold: 0.0,
+        }
     }
-}
 
-// A buy's value joins the bought sum, a sale's the sold one.
-pub fn sums_step(s: Sums, t: Trade) -> Sums
-    ensures { result ≡ add_sums s t }
-{
-    let typ = t.typ;
-    match typ {
-        TradeType::Buy => Sums {
-            bought: s.bought + t.value,
-            sold: s.sold,
-        },
-        TradeType::Sell => Sums {
-            bought: s.bought,
-            sold: s.sold + t.value,
-        },
+    // A buy's value joins the bought sum, a sale's the sold one.
+    pub fn with(mut self, t: Trade) -> Sums
+        ensures { result ≡ add_sums self t }
+    {
+        match t.typ {
+            TradeType::Buy => self.bought += t.value,
+            TradeType::Sell => self.sold += t.value,
+        }
+        self
     }
-}
 
-// The bought sum where it is below the sold one, else the sold one.
-pub fn lesser(s: Sums) -> f64
-    ensures { result ≡ lesser s }
-{
-    if s.bought < s.sold { s.bought } else { s.sold }
+    // The sums of a log, in its order.
+    pub fn of(log: &[Trade]) -> Sums
+        ensures { result ≡ turnover_sums log.now }
+    {
+        let mut sums = Sums::none();
+        for t in log {
+            sums = sums.with(*t);
+        }
+        sums
+    }
+
+    // The bought sum where it is below the sold one, else the sold one. A sold sum that is NaN is
+    // answered, which `f64::min` would not do.
+    pub fn lesser(self) -> f64
+        ensures { result ≡ lesser self }
+    {
+        if self.bought < self.sold {
+            self.bought
+        } else {
+            self.sold
+        }
+    }
 }

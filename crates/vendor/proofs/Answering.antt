@@ -1,14 +1,13 @@
 -- From rows and a number by value to what is stated of a lent table in which they are stored; from what the crate `lines` answers to what is stated of lent tables
 -- and buffers, and of arrays whose first rows are lent. Assumes nothing.
 use Prim.Native.Nat.{ℕ, min, ◌≤◌}
-use native.Mathlib.Nat.{zero-add}
 use native.Mathlib.Omega.{arith}
-use mathlib.Core.Path.{◌≡◌, refl, sym, ◌∙◌, ap, ap₂, subst}
+use mathlib.Core.Path.{◌≡◌, refl, sym, ◌∙◌, ap, ap₂}
 use mathlib.Core.List.{List, ◌++◌, append_assoc}
 use lib.ListN.{length, take, drop, replicate, take-append-drop}
-use lib.Seq.{paste, length-take-le, drop-append-le}
+use lib.Seq.{length-take-le, drop-append-le}
 use Rattle.lists.specs.Lists.{over}
-use Rattle.lists.proofs.Over.{paste-over}
+use Rattle.lists.proofs.Over.{take-over}
 use Rattle.market.specs.Quotes.{blank_quote, listing, table_of}
 use Rattle.market.specs.declared.quote.Quote.{Quote}
 use Rattle.market.specs.declared.table.Table.{Table}
@@ -21,53 +20,35 @@ use Rattle.lines.proofs.Tables.{table-fault, table-written}
 use Rattle.lines.proofs.Theorems.{rows_fit}
 use Rattle.vendor.specs.Answers.{AnswersRead, AnswersWrite, lines_answer, read_on}
 use Rattle.vendor.specs.declared.answer.TableAnswer.{TableAnswer}
-use Rattle.vendor.specs.declared.quote_lines.LinesRead.{LinesRead}
 use Rattle.vendor.specs.declared.on_arrays.TableRead.{TableRead}
 
 -- ---- rows and a number, which stand in x, stored in a lent table
 
-module _ (l : List Quote) (fault : ℕ) (x : QuoteRows) (is : x ≡ listing l fault) where
-  listing-count : x.count ≡ length l
-  listing-count = ap (λ (y : QuoteRows). y.count) is
-
-  listing-rows : x.rows ≡ over l (replicate 257 blank_quote)
-  listing-rows = ap (λ (y : QuoteRows). y.rows) is
-
+module _ (l : List Quote) (fault : ℕ) {x : QuoteRows} (is : x ≡ listing l fault) where
   -- they fit the array, and a table of `room` rows
-  pub listing-within : (room n : ℕ) → length l ≤ min room 256 → n ≡ x.count → (n ≤ 257) × (n ≤ room)
-  listing-within room n few e = (omega (arith, few, e, listing-count), omega (arith, few, e, listing-count))
+  pub listing-within : (room : ℕ) → length l ≤ min room 256 → (x.count ≤ 257) × (x.count ≤ room)
+  listing-within room few = rw is (omega (arith, few), omega (arith, few))
 
-  pub listing-answer : (z : TableAnswer) → z ≡ record { rows = x.count; fault = x.fault } → z ≡ record { rows = length l; fault = fault }
-  listing-answer z e = e ∙ ap (λ (y : QuoteRows). record { rows = y.count; fault = y.fault }) is
+  pub listing-answer : ◌≡◌ {A = TableAnswer} (record { rows = x.count; fault = x.fault }) (record { rows = length l; fault = fault })
+  listing-answer = ap (λ (y : QuoteRows). record { rows = y.count; fault = y.fault }) is
 
-  -- they are stored from the table's first place on
-  pub listing-stored : (table rows : List Quote) (n : ℕ) → rows ≡ x.rows → n ≡ x.count → paste table 0 rows n ≡ over l table
-  listing-stored table rows n e f =
-      ap₂ (λ (k : List Quote) (i : ℕ). paste table 0 k i) (e ∙ listing-rows) (f ∙ listing-count)
-      ∙ paste-over table 0 l (replicate 257 blank_quote) (length l) refl
-      ∙ ap (λ (i : ℕ). l ++ drop i table) (zero-add (length l))
+  pub listing-stored : (table : List Quote) → over (take x.count x.rows) table ≡ over l table
+  listing-stored table = rw is (ap (λ (k : List Quote). over k table) (take-over l (replicate 257 blank_quote) (length l) refl))
 
 -- ---- the text s, read for a table of `room` rows
 
-module _ (s : List ℕ) (room : ℕ) (x : QuoteRows) (is : x ≡ read_of room s) where
-  listed : x ≡ listing (rows_read room s) (read_fault room s)
-  listed = is ∙ read_is room s
+listed : (s : List ℕ) (room : ℕ) {x : QuoteRows} → x ≡ read_of room s → x ≡ listing (rows_read room s) (read_fault room s)
+listed s room is = is ∙ read_is room s
 
-  -- the rows fit the array, and the table
-  pub rows-within : (n : ℕ) → n ≡ x.count → (n ≤ 257) × (n ≤ room)
-  rows-within n e = listing-within (rows_read room s) (read_fault room s) x listed room n (rows_fit room s) e
+pub rows-within : (s : List ℕ) (room : ℕ) {x : QuoteRows} → x ≡ read_of room s → (x.count ≤ 257) × (x.count ≤ room)
+rows-within s room is = listing-within (rows_read room s) (read_fault room s) (listed s room is) room (rows_fit room s)
 
-  pub answer-is : (z : LinesRead) → z ≡ record { rows = x.count; fault = x.fault } → z ≡ lines_answer room s
-  answer-is z e = e ∙ ap (λ (y : QuoteRows). record { rows = y.count; fault = y.fault }) listed
-
-  -- they are stored from the table's first place on
-  pub stored-rows : (table rows : List Quote) (n : ℕ) → rows ≡ x.rows → n ≡ x.count → paste table 0 rows n ≡ over (rows_read room s) table
-  stored-rows = listing-stored (rows_read room s) (read_fault room s) x listed
-
-pub read-answers : (s : List ℕ) (table after rows : List Quote) (x : QuoteRows) (n : ℕ) (z : LinesRead) → x ≡ read_of (length table) s → rows ≡ x.rows → n ≡ x.count →
-    after ≡ paste table 0 rows n → z ≡ record { rows = x.count; fault = x.fault } → AnswersRead s table z after
-read-answers s table after rows x n z is_x is-rows is-n stored is-z =
-    record { answer = answer-is s (length table) x is_x z is-z; table_is = stored ∙ stored-rows s (length table) x is_x table rows n is-rows is-n }
+pub read-answers : (s : List ℕ) (table : List Quote) {x : QuoteRows} {z : TableAnswer} {after : List Quote} → x ≡ read_of (length table) s →
+    z ≡ record { rows = x.count; fault = x.fault } → after ≡ over (take x.count x.rows) table → AnswersRead s table z after
+read-answers s table is is-z stored =
+    let room = length table in
+    let l = listed s room is in
+    record { answer = is-z ∙ listing-answer (rows_read room s) (read_fault room s) l; table_is = stored ∙ listing-stored (rows_read room s) (read_fault room s) l table }
 
 -- ---- the text of a table
 
@@ -80,34 +61,28 @@ write-answers table t out after z is-t w =
       buffer-is = w.buffer ∙ ap (λ (k : List ℕ). over k out) text;
     }
 
--- ---- arrays of 257 rows whose first k are lent
+-- ---- rows that were stored in the first n places of a list stand in the whole list
 
-module _ {A : Type 0} (l : List A) (k n : ℕ) (least : k ≡ min n 257) (long : length l ≡ 257) where
-  pub within : k ≤ length l
-  within = omega (arith, least, long)
-
-  lent : length (take k l) ≡ k
-  lent = length-take-le k l within
-
--- rows that were stored in the first n places of a list stand in the whole list
 pub stored-part : {A : Type 0} (k l : List A) (n : ℕ) → length k ≤ n → n ≤ length l → over k (take n l) ++ drop n l ≡ over k l
 stored-part {A} k l n short fits =
     append_assoc k (drop (length k) (take n l)) (drop n l)
     ∙ ap (λ (z : List A). k ++ z) (sym (drop-append-le (length k) (take n l) (drop n l) (omega (arith, short, length-take-le n l fits))) ∙ ap (drop (length k)) (take-append-drop n l))
 
-pub read-on-answers : (s : List ℕ) (room n : ℕ) (e after : List Quote) (y : LinesRead) (z : TableRead) → n ≡ min room 257 → e ≡ replicate 257 blank_quote → length e ≡ 257 →
-    AnswersRead s (take n e) y after → z ≡ record { answer = y; rows = after ++ drop n e } → z ≡ read_on s room
-read-on-answers s room n e after y z is-n is-e long done is-z =
-    let m = length (take n e) in
-    let here : m ≡ min room 257 = lent e n room is-n long ∙ is-n in
-    let k = rows_read m s in
-    let rows : after ++ drop n e ≡ over k (replicate 257 blank_quote) =
-    ap (λ (l : List Quote). l ++ drop n e) done.table_is
-    ∙ stored-part k e n (omega (arith, rows_fit m s, lent e n room is-n long)) (within e n room is-n long)
-    ∙ ap (over k) is-e in
-    is-z
-    ∙ ap₂ (λ (x : LinesRead) (l : List Quote). record { answer = x; rows = l }) done.answer rows
-    ∙ ap (λ (i : ℕ). record { answer = lines_answer i s; rows = over (rows_read i s) (replicate 257 blank_quote) }) here
+-- the first n rows of a blank array e are lent
+read-at : List ℕ → ℕ → TableRead
+read-at s n = record { answer = lines_answer n s; rows = over (rows_read n s) (replicate 257 blank_quote) }
 
-pub write-on-answers : (rows : List Quote) (n k : ℕ) (out after : List ℕ) (z : Written) → k ≡ min n 257 → AnswersWrite (take k rows) out z after → AnswersWrite (take (min n 257) rows) out z after
-write-on-answers rows n k out after z is-k done = subst (λ (i : ℕ). AnswersWrite (take i rows) out z after) is-k done
+pub read-on-answers : (s : List ℕ) (room : ℕ) {n : ℕ} {e after : List Quote} {y : TableAnswer} → n ≡ min room 257 → e ≡ replicate 257 blank_quote → length e ≡ 257 → AnswersRead s (take n e) y after →
+    ◌≡◌ {A = TableRead} (record { answer = y; rows = after ++ drop n e }) (read_on s room)
+unfolding read-at
+read-on-answers s room {n} {e} {after} {y} is-n is-e long done =
+    let fits : n ≤ length e = omega (arith, is-n, long) in
+    let m = length (take n e) in
+    let lent : m ≡ n = length-take-le n e fits in
+    let rows : after ++ drop n e ≡ over (rows_read m s) (replicate 257 blank_quote) =
+    ap (λ (l : List Quote). l ++ drop n e) done.table_is
+    ∙ stored-part (rows_read m s) e n (omega (arith, rows_fit m s, lent)) fits
+    ∙ ap (over (rows_read m s)) is-e in
+    let here : ◌≡◌ {A = TableRead} (record { answer = y; rows = after ++ drop n e }) (read-at s m)
+    = ap₂ (λ (x : TableAnswer) (l : List Quote). record { answer = x; rows = l }) done.answer rows in
+    here ∙ ap (read-at s) (lent ∙ is-n)

@@ -6,16 +6,16 @@ use Rattle.market.specs.declared.quote.Quote.{Quote}
 use Rattle.lines.specs.Reading.{read_fault, rows_read}
 use Rattle.lines.specs.Writing.{write_fault, text_written}
 use Rattle.lines.specs.declared.write.Written.{Written}
-use Rattle.vendor.specs.declared.quote_lines.LinesRead.{LinesRead}
+use Rattle.vendor.specs.declared.answer.TableAnswer.{TableAnswer}
 use Rattle.vendor.specs.declared.on_arrays.TableRead.{TableRead}
 
 -- how many rows a text has for a table of `room` rows, and the number drawn, or 0
-abbrev pub lines_answer : ℕ → List ℕ → LinesRead
+abbrev pub lines_answer : ℕ → List ℕ → TableAnswer
 lines_answer room s = record { rows = length (rows_read room s); fault = read_fault room s }
 
 -- the text s, read to a lent table; `after` is the table at exit: the rows stand in its first places, its old entries past them. Where a number is drawn
 -- there are no rows, and the table is as it was
-pub record AnswersRead (s : List ℕ) (table : List Quote) (r : LinesRead) (after : List Quote) : Type 0 where
+pub record AnswersRead (s : List ℕ) (table : List Quote) (r : TableAnswer) (after : List Quote) : Type 0 where
   pub answer : r ≡ lines_answer (length table) s
   pub table_is : after ≡ over (rows_read (length table) s) table
 

@@ -1,6 +1,6 @@
-// What is answered of rows that were written to a lent table, and the parts of what the core answers by
-// value.
-ghost use Rattle.std.specs.Prelude.{◌≡◌};
+// What is answered of rows that were written to a lent table.
+ghost use Rattle.std.specs.Prelude.{◌≡◌, ◌≤◌, length, take};
+ghost use Rattle.lists.specs.Lists.{over};
 
 use market::quote::Quote;
 use market::table::QuoteRows;
@@ -12,21 +12,13 @@ pub struct TableAnswer {
     pub fault: u32,
 }
 
-pub(crate) fn rows_in(x: QuoteRows) -> [Quote; 257]
-    ensures { result ≡ x.rows }
+// Stores the rows in the table's first places.
+pub(crate) fn store_rows(x: &QuoteRows, table: &mut [Quote]) -> TableAnswer
+    requires { (x.now.count ≤ 257) × (x.now.count ≤ length table.old) }
+    ensures answer { result ≡ record { rows = x.now.count; fault = x.now.fault } }
+    ensures table_is { table.new ≡ over (take x.now.count x.now.rows) table.old }
 {
-    x.rows
-}
-
-pub(crate) fn count_in(x: QuoteRows) -> usize
-    ensures { result ≡ x.count }
-{
-    x.count
-}
-
-pub(crate) fn table_answer(x: QuoteRows) -> TableAnswer
-    ensures { result ≡ record { rows = x.count; fault = x.fault } }
-{
+    slices::store(table, 0, &x.rows[..x.count]);
     TableAnswer {
         rows: x.count,
         fault: x.fault,

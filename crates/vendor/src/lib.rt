@@ -5,4 +5,3 @@ pub mod answer;
 pub mod correct;
 pub mod on_arrays;
 pub mod quote_lines;
-mod store;

@@ -3,6 +3,5 @@ pub mod Digits
 pub mod Names
 pub mod Picks
 pub mod Places
-pub mod Signs
 pub mod Splits
 pub mod Words

@@ -1,7 +1,9 @@
 -- What is picked by one test or two, or by a value that may be none. Assumes nothing.
 use mathlib.Core.Path.{◌≡◌, sym, ap, ◌∙◌}
 use mathlib.Core.Bool.{Bool, true, false, ◌&&◌, cond}
-use mathlib.Core.Option.{Option, none, some, Option-elim}
+use Rattle.std.specs.declared.option.Option.{Option}
+use Rattle.std.specs.declared.option.Option.TheVariants.{None, Some}
+use Rattle.lists.specs.Lists.{given}
 
 module _ {A : Type 0} (yes no : A) (t v : Bool) where
   pub not_first : t ≡ false → no ≡ cond (t && v) yes no
@@ -27,10 +29,8 @@ says f e told = sym (ap f told) ∙ e
 
 -- what is made of a value, or of none
 module _ {A B : Type 0} (f : A → B) (no : B) {o : Option A} {x : B} where
-  pub with-some : (a : A) → some a ≡ o → x ≡ f a → x ≡ Option-elim o no f
-  unfolding Option-elim
-  with-some a e q = q ∙ ap (λ (p : Option A). Option-elim p no f) e
+  pub with-some : (a : A) → Some a ≡ o → x ≡ f a → x ≡ given o no f
+  with-some a e q = q ∙ ap (λ (p : Option A). given p no f) e
 
-  pub with_none : none ≡ o → x ≡ no → x ≡ Option-elim o no f
-  unfolding Option-elim
-  with_none e q = q ∙ ap (λ (p : Option A). Option-elim p no f) e
+  pub with_none : None ≡ o → x ≡ no → x ≡ given o no f
+  with_none e q = q ∙ ap (λ (p : Option A). given p no f) e

@@ -1,12 +1,16 @@
 -- The place of the first byte that passes a test, found byte by byte. Assumes nothing.
-use Prim.Native.Nat.{ℕ, zero, suc, ◌+◌, ◌≤◌, ◌<◌, min}
-use native.Mathlib.Numerals.{add-one}
+use Prim.Native.Nat.{ℕ, zero, suc, ◌+◌, ◌≤◌, min}
 use native.Mathlib.Omega.{arith}
 use mathlib.Core.Path.{◌≡◌, refl, sym, ap, ◌∙◌}
 use mathlib.Core.Bool.{Bool, true, false, cond}
 use mathlib.Core.List.{List, [], ◌∷◌}
-use lib.ListN.{length, get_or, drop, drop_of_length-le, length-drop}
-use lib.Seq.{drop-cons, drop-nil}
+use lib.ListN.{length, drop, length-drop}
+use lib.Seq.{drop-nil}
+use lib.Dec.{ltb}
+use Rattle.std.specs.declared.option.Option.TheVariants.{None, Some}
+use Rattle.std.specs.List.{position_or_len}
+use Rattle.std.proofs.lemmas.List.Recursion.{is_position_or_len}
+use Rattle.std.proofs.lemmas.Bool.Decides.{nat_tests}
 use Rattle.words.specs.Words.{lead, place}
 
 at_most : (t : Bool) (n m : ℕ) → n ≤ m → cond t 0 (suc n) ≤ suc m
@@ -20,6 +24,9 @@ drop_min (x ∷ l) (suc i) n =
     let e : min (suc i) (suc (length l)) + n ≡ suc (min i (length l) + n) = omega arith in
     ap (λ (k : ℕ). drop k (x ∷ l)) e ∙ drop_min l i n
 
+pub from-least : (l : List ℕ) (i : ℕ) → drop (min i (length l)) l ≡ drop i l
+from-least l i = let e : min i (length l) + 0 ≡ min i (length l) = omega arith in ap (λ (k : ℕ). drop k l) (sym e) ∙ drop_min l i 0
+
 module _ (p : ℕ → Bool) where
   lead-here : (x : ℕ) (l : List ℕ) → p x ≡ true → lead p (x ∷ l) ≡ 0
   unfolding lead
@@ -29,9 +36,9 @@ module _ (p : ℕ → Bool) where
   unfolding lead
   lead-on x l e = ap (λ (t : Bool). cond t 0 (suc (lead p l))) e
 
-  lead-none : lead p [] ≡ 0
+  lead-is : (l : List ℕ) → lead p l ≡ position_or_len p l
   unfolding lead
-  lead-none = refl
+  lead-is l = is_position_or_len (lead p) p refl (λ x l. ap (cond (p x) 0) (omega arith)) l
 
   pub lead-within : (l : List ℕ) → lead p l ≤ length l
   unfolding lead
@@ -39,19 +46,12 @@ module _ (p : ℕ → Bool) where
   lead-within (x ∷ l) = at_most (p x) (lead p l) (length l) (lead-within l)
 
   module _ (l : List ℕ) (i : ℕ) where
-    pub here : i < length l → p (get_or l i 0) ≡ true → i ≡ place p l i
-    here h e = omega (arith, ap (lead p) (drop-cons l i 0 h) ∙ lead-here (get_or l i 0) (drop (suc i) l) e)
+    -- the first one that passes among those from there on, as the library finds it
+    pub found : (n k : ℕ) → n ≡ min i (length l) → Some k ≡ cond (ltb (position_or_len p (drop i l)) (length (drop i l))) (Some (position_or_len p (drop i l))) None → n + k ≡ place p l i
+    found n k m e = grind (arith, nat_tests, lead-is (drop i l), length-drop i l)
 
-    pub further : i < length l → p (get_or l i 0) ≡ false → place p l (i + 1) ≡ place p l i
-    further h e =
-        omega (
-          arith,
-          ap (lead p) (drop-cons l i 0 h) ∙ lead-on (get_or l i 0) (drop (suc i) l) e,
-          ap (λ (k : ℕ). lead p (drop k l)) (add-one i),
-        )
-
-    pub nowhere : length l ≤ i → length l ≡ place p l i
-    nowhere h = omega (arith, ap (lead p) (drop_of_length-le l h) ∙ lead-none)
+    pub not-found : None ≡ cond (ltb (position_or_len p (drop i l)) (length (drop i l))) (Some (position_or_len p (drop i l))) None → length l ≡ place p l i
+    not-found e = grind (arith, nat_tests, lead-is (drop i l), lead-within (drop i l), length-drop i l)
 
     pub place-within : place p l i ≤ length l
     place-within = omega (arith, lead-within (drop i l), length-drop i l)

@@ -6,10 +6,15 @@ use mathlib.Core.Path.{◌≡◌, refl, sym, ap, ◌∙◌}
 use mathlib.Core.Bool.{Bool, true, false, cond, beq}
 use mathlib.Core.List.{List, [], ◌∷◌}
 use native.Mathlib.Nat.{not-suc-le-zero}
-use borrow.Author.Tests.{eq-eqb, ne_eqb}
 use lib.Dec.{eqb}
 use lib.ListN.{length, get_or, take, drop, drop_of_length-le}
 use lib.Seq.{drop-cons, drop-drop}
+use Rattle.std.specs.declared.option.Option.{Option}
+use Rattle.std.specs.declared.option.Option.TheVariants.{None, Some}
+use Rattle.std.specs.Option.{option_map, unwrap_or}
+use Rattle.std.specs.List.{slice_split, slice_get, onto_first}
+use Rattle.std.proofs.lemmas.Option.{unwrap_or-slice_get}
+use denote.Ref.{Bor}
 use Rattle.words.specs.Words.{split, on_first, is_byte, lead, place, bytes_in}
 
 -- the parts behind the first one, of what stands from the first byte b on
@@ -28,38 +33,25 @@ module _ (b : ℕ) where
   split-first [] = refl
   split-first (x ∷ l) = first_step (eqb x b) x l (lead (is_byte b true) l) (split b l) (split-first l)
 
--- ---- how many parts
-module _ (b : ℕ) where
-  pub some-part : (l : List ℕ) → 0 < length (split b l)
-  some-part l = omega (arith, ap length (split-first b l))
+pub some-part : (b : ℕ) (l : List ℕ) → 0 < length (split b l)
+some-part b l = omega (arith, ap length (split-first b l))
 
-  count-step : (t : Bool) (x : ℕ) (ps qs : List (List ℕ)) → 0 < length ps → t ≡ false → length (cond t qs (on_first x ps)) ≡ length ps
-  count-step true x ps qs h e = let z : ◌≡◌ {A = ℕ} 0 1 = cc in omega arith
-  count-step false x [] qs h e = omega arith
-  count-step false x (p ∷ ps) qs h e = refl
+-- ---- they are the library's parts of a slice
+like-first : (x : ℕ) (ps : List (List ℕ)) → on_first x ps ≡ onto_first x ps
+like-first x [] = refl
+like-first x (p ∷ ps) = refl
 
-  pub one_more : (x : ℕ) (l : List ℕ) → eqb x b ≡ true → length (split b (x ∷ l)) ≡ suc (length (split b l))
-  unfolding split
-  one_more x l e = ap (λ (t : Bool). length (cond t ([] ∷ split b l) (on_first x (split b l)))) e
+pub split-is : (b : ℕ) (l : List ℕ) → split b l ≡ slice_split (λ x. eqb x b) l
+unfolding split
+split-is b [] = refl
+split-is b (x ∷ l) =
+    ap (λ (ps : List (List ℕ)). cond (eqb x b) ([] ∷ ps) (on_first x ps)) (split-is b l)
+    ∙ ap (cond (eqb x b) ([] ∷ slice_split (λ x. eqb x b) l)) (like-first x (slice_split (λ x. eqb x b) l))
 
-  pub no_more : (x : ℕ) (l : List ℕ) → eqb x b ≡ false → length (split b (x ∷ l)) ≡ length (split b l)
-  unfolding split
-  no_more x l e = count-step (eqb x b) x (split b l) ([] ∷ split b l) (some-part l) e
-
-  pub none_left : (l : List ℕ) (i : ℕ) → length l ≤ i → length (split b (drop i l)) ≡ 1
-  unfolding split
-  none_left l i h = ap (λ (k : List ℕ). length (split b k)) (drop_of_length-le l h)
-
--- ---- counting the bytes b, from place i on
-module _ (b : ℕ) (l : List ℕ) (i : ℕ) (h : i < length l) where
-  drops : length (split b (drop i l)) ≡ length (split b (get_or l i 0 ∷ drop (i + 1) l))
-  drops = ap (λ (k : List ℕ). length (split b k)) (drop-cons l i 0 h ∙ ap (λ (k : ℕ). get_or l i 0 ∷ drop k l) (sym (add-one i)))
-
-  pub counted : get_or l i 0 ≡ b → length (split b (drop i l)) ≡ suc (length (split b (drop (i + 1) l)))
-  counted e = drops ∙ one_more b (get_or l i 0) (drop (i + 1) l) (eq-eqb (get_or l i 0) b e)
-
-  pub passed : (get_or l i 0 ≡ b → ⊥) → length (split b (drop i l)) ≡ length (split b (drop (i + 1) l))
-  passed e = drops ∙ no_more b (get_or l i 0) (drop (i + 1) l) (ne_eqb (get_or l i 0) b e)
+-- the part behind k of them, empty where there are fewer
+pub one_of : (r : Option (Bor (List ℕ))) (none : Bor (List ℕ)) (ps : List (List ℕ)) (k : ℕ) → option_map (λ x. x.now) r ≡ slice_get ps k → none.now ≡ [] → (unwrap_or r none).now ≡ get_or ps k []
+one_of None none ps k e h = h ∙ ap (λ (o : Option (List ℕ)). unwrap_or o []) e ∙ unwrap_or-slice_get ps k []
+one_of (Some x) none ps k e h = ap (λ (o : Option (List ℕ)). unwrap_or o []) e ∙ unwrap_or-slice_get ps k []
 
 -- no byte stands between a place and itself
 pub nothing : (l : List ℕ) (n : ℕ) → bytes_in l (record { from = n; to = n }) ≡ []

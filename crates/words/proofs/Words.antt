@@ -157,3 +157,13 @@ module _ (l : List ℕ) (at : ℕ) {r : Word} (e : r ≡ word_at l at) where
       ∙ sym (ap (drop 1) none))
       (λ h. sym (ap (drop 1) (next_of h)))
       (eq-or-lt_of_le ordered)
+
+-- ---- no word is empty: where the first one is, none is left
+nonempty-none : (ps : List (List ℕ)) → get_or (nonempty ps) 0 [] ≡ [] → nonempty ps ≡ []
+nonempty-none [] e = refl
+nonempty-none ([] ∷ ps) e = nonempty-none ps e
+nonempty-none ((x ∷ p) ∷ ps) e = absurd (let z : ◌≡◌ {A = ℕ} 0 1 = cc in omega arith)
+
+pub no-first : (l : List ℕ) → get_or (words_of l) 0 [] ≡ [] → words_of l ≡ []
+unfolding words_of
+no-first l e = nonempty-none (split 32 l) e

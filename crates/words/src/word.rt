@@ -1,6 +1,6 @@
 // Words of a line, and the parts of a word that colons separate.
-ghost use Rattle.std.specs.Prelude.{◌≡◌, length};
-ghost use Rattle.words.specs.Words.{split, is_byte, place, word_at, part_of, Holds, same_bytes};
+ghost use Rattle.std.specs.Prelude.{◌≡◌, [], length, get_or, drop};
+ghost use Rattle.words.specs.Words.{split, words_of, is_byte, place, word_at, part_of, same_bytes};
 
 // A word or a part: the bytes from `from` to before `to`.
 #[derive(Clone, Copy)]
@@ -14,14 +14,11 @@ pub struct Word {
 pub fn next(s: &[u8], at: usize, byte: u8, is: bool) -> usize
     ensures { result ≡ place (is_byte byte is) s.now at }
 {
-    let mut i = at;
-    while i < s.len() {
-        if (s[i] == byte) == is {
-            return i;
-        }
-        i = i + 1;
+    let start = at.min(s.len());
+    match s[start..].iter().position(|b| (*b == byte) == is) {
+        Some(k) => start + k,
+        None => s.len(),
     }
-    s.len()
 }
 
 // The word at or after `at`; it is empty at the line's end.
@@ -30,55 +27,36 @@ pub fn word_at(line: &[u8], at: usize) -> Word
 {
     let from = next(line, at, b' ', false);
     let to = next(line, from, b' ', true);
-    Word { from: from, to: to }
+    Word { from, to }
+}
+
+// The bytes of the word at or after `at`, none at the line's end, and where the words behind it are
+// looked for.
+pub fn first_at(line: &[u8], at: usize) -> (&[u8], usize)
+    ensures word { result.0.now ≡ get_or (words_of (drop at line.now)) 0 [] }
+    ensures rest { words_of (drop result.1 line.now) ≡ drop 1 (words_of (drop at line.now)) }
+{
+    let w = word_at(line, at);
+    (&line[w.from..w.to], w.to)
 }
 
 // How many parts a word has.
 pub fn parts(w: &[u8]) -> usize
     ensures { result ≡ length (split 58 w.now) }
 {
-    let mut n: usize = 1;
-    let mut i: usize = 0;
-    while i < w.len() {
-        if w[i] == b':' {
-            n = n + 1;
-        }
-        i = i + 1;
-    }
-    n
+    w.iter().filter(|b| **b == b':').count() + 1
 }
 
-// The part behind `k` colons; it is empty, at the word's end, where there are fewer.
-pub fn part(w: &[u8], k: usize) -> Word
-    ensures { Holds w.now result (part_of w.now k) }
+// The part behind `k` colons; it is empty where there are fewer.
+pub fn part(w: &[u8], k: usize) -> &[u8]
+    ensures { result.now ≡ part_of w.now k }
 {
-    let mut from: usize = 0;
-    let mut to = next(w, from, b':', true);
-    let mut left = k;
-    while left > 0 {
-        if to == w.len() {
-            return Word { from: to, to: to };
-        }
-        from = to + 1;
-        to = next(w, from, b':', true);
-        left = left - 1;
-    }
-    Word { from: from, to: to }
+    w.split(|b| *b == b':').nth(k).unwrap_or(&[])
 }
 
 // Are the bytes those of `name`?
 pub fn is_name(w: &[u8], name: &[u8]) -> bool
     ensures { result ≡ same_bytes w.now name.now }
 {
-    if w.len() != name.len() {
-        return false;
-    }
-    let mut i: usize = 0;
-    while i < w.len() {
-        if w[i] != name[i] {
-            return false;
-        }
-        i = i + 1;
-    }
-    true
+    w == name
 }

@@ -1,12 +1,9 @@
--- `charges`: adding the charges of the costs that are left gives the whole sum.
-use Prim.Native.Nat.{◌-◌}
-use Rattle.costs.specs.Costs.{charge_step, trade_costs}
-use Rattle.costs.specs.Kept.{costs_of}
-use Rattle.costs.proofs.Laws.{FoldAt}
+-- `charges`: the sum so far is that of the costs so far.
+use mathlib.Core.Path.{◌≡◌}
+use mathlib.Core.List.{foldl}
+use lib.ListN.{take}
+use Rattle.costs.specs.Costs.{charge_step, zero64}
 use Rattle.costs.proofs.charges.Given as goal
 
-abbrev pub invariant-loop-i : goal.invariant-loop-i
-invariant-loop-i l = FoldAt l.costs (charge_step l.quantity l.value) (trade_costs (costs_of l.costs) l.quantity l.value) l.n l.sum l.i
-
-abbrev pub decreases-loop-i : goal.decreases-loop-i
-decreases-loop-i l = l.n - l.i
+abbrev pub invariant-loop-cost : goal.invariant-loop-cost
+invariant-loop-cost l = l.sum ≡ foldl (charge_step l.quantity l.value) zero64 (take l.cost-index l.cost-items)

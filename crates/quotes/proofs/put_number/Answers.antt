@@ -1,11 +1,9 @@
--- a turn puts one digit more, and a newline stands behind them
-use Rattle.quotes.proofs.Printing.{puts_one, puts-all, line-put}
+-- the digits are put, and a newline stands behind them
+use Rattle.std.proofs.Common.{rules, ◌≡◌, length}
+use Rattle.quotes.proofs.Printing.{line-put}
 use Rattle.quotes.proofs.put_number.Goals as goal
-
-pub loop-i-preserved : goal.loop-i-preserved
-loop-i-preserved c = let held = c.loop-i.invariant in (held.0, puts_one held.1 c.loop-i-test.true)
 
 pub returns : goal.returns
 returns c =
-    let p = c.loop-i.invariant.1 in
-    line-put c.args.n c.decimal_text-text.result c.args.out.now c.loop-i.out c.decimal_text-text.ensures p.room (puts-all p c.loop-i-test.false)
+    let long : length c.decimal_text-text.result.bytes ≡ 20 = search rules in
+    line-put c.args.n c.decimal_text-text.result c.args.out.now c.copy_from_slice.new.self c.decimal_text-text.ensures long c.requires c.copy_from_slice.ensures.after

@@ -1,8 +1,8 @@
 -- `correct_on`: what the correction of the lent rows answers, said of the arrays
-use Rattle.arrays.proofs.Answers.{correct-on-answers}
+use Rattle.arrays.proofs.Correcting.{correct-on-answers}
 use Rattle.arrays.proofs.correct.correct_on.Goals as goal
 
 pub returns : goal.returns
 returns c =
-    correct-on-answers c.args.rows c.args.n c.args.room c.given_rows-k.result c.entries-m.result c.no_quotes-table.result _ c.correct_quotes-y.result c.table_corrected.result c.given_rows-k.ensures c.entries-m.ensures c.no_quotes-table.ensures
-    c.no_quotes-table.type_inv.1.0.1 c.correct_quotes-y.ensures c.table_corrected.ensures
+    correct-on-answers c.args.rows.now c.args.n c.args.room c.min.result c.min-2.result c.no_quotes-list.result _ c.correct_quotes-answer.result c.min.ensures c.min-2.ensures c.no_quotes-list.ensures c.no_quotes-list.type_inv.1.0.1
+    c.correct_quotes-answer.ensures

@@ -1,58 +1,31 @@
 -- `list::span_at` meets its contract. The loop's invariant: the words before `i` are rows of the list, and what is left makes it whole.
--- Each of them ends behind where it was looked for, so the loop ends. Assumes nothing.
+-- Each turn takes one of the words that are left, so the loop ends. Assumes nothing.
 use mathlib.Core.Path.{sym, ◌∙◌}
-use native.Mathlib.Omega.{arith}
 use borrow.Author.Tests.{not-true, not-false}
 use Rattle.calls.specs.Lists.{spanned}
-use Rattle.words.proofs.Words.{ordered, within, beyond}
-use Rattle.calls.proofs.Lists.{none_passed, ends-well, ends-ill, many, some_byte, unfit, passed-more}
+use Rattle.calls.proofs.Lists.{none_passed, tested, ends-well, ends-ill, many, fewer, unfit, passed-more}
 use Rattle.calls.proofs.list.span_at.Goals as goal
 
-pub loop-kind-init : goal.loop-kind-init
-loop-kind-init c = none_passed _ _ _ _ _
-
-pub slice_bounds-is_slash-count : goal.slice_bounds-is_slash-count
-slice_bounds-is_slash-count c = omega (arith, ordered _ _ c.word_at-w.ensures, within _ _ c.word_at-w.ensures)
-
-pub slice_bounds-is_slash-start : goal.slice_bounds-is_slash-start
-slice_bounds-is_slash-start c = omega (arith, ordered _ _ c.word_at-w.ensures, within _ _ c.word_at-w.ensures)
-
-pub slice_bounds-is_slash-end : goal.slice_bounds-is_slash-end
-slice_bounds-is_slash-end c = omega (arith, ordered _ _ c.word_at-w.ensures, within _ _ c.word_at-w.ensures)
+pub loop-w-init : goal.loop-w-init
+loop-w-init c = none_passed _ _ _ _ _
 
 pub returns-then-slash-before : goal.returns-then-slash-before
 unfolding spanned
-returns-then-slash-before c = ends-ill _ _ _ _ _ _ _ c.loop-kind.invariant c.word_at-w.ensures _ c.is_slash-slash.ensures c.if-slash-from.true (not-true _ c.if-slash-before.true)
+returns-then-slash-before c = ends-ill _ _ _ _ _ _ _ c.loop-w.invariant _ c.first_at-next.ensures.word c.first_at-next.ensures.rest _ c.is_slash-slash.ensures (tested _ _ c.is_empty.ensures c.if-slash-is_empty.true) (not-true _ c.if-slash-before.true)
 
-pub returns-then-slash-from : goal.returns-then-slash-from
-returns-then-slash-from c = ends-well _ _ _ _ _ _ _ c.loop-kind.invariant c.word_at-w.ensures _ c.is_slash-slash.ensures c.if-slash-from.true (not-false _ c.if-slash-before.false)
+pub returns-then-slash-is_empty : goal.returns-then-slash-is_empty
+returns-then-slash-is_empty c = ends-well _ _ _ _ _ _ _ c.loop-w.invariant _ c.first_at-next.ensures.word c.first_at-next.ensures.rest _ c.is_slash-slash.ensures (tested _ _ c.is_empty.ensures c.if-slash-is_empty.true) (not-false _ c.if-slash-before.false)
 
 pub returns-then-count-most : goal.returns-then-count-most
 unfolding spanned
-returns-then-count-most c = many _ _ _ _ _ _ _ c.loop-kind.invariant c.word_at-w.ensures _ c.is_slash-slash.ensures c.if-slash-from.false c.if-count-most.true
-
-pub slice_bounds-is_row-count : goal.slice_bounds-is_row-count
-slice_bounds-is_row-count c = omega (arith, ordered _ _ c.word_at-w.ensures, within _ _ c.word_at-w.ensures)
-
-pub slice_bounds-is_row-start : goal.slice_bounds-is_row-start
-slice_bounds-is_row-start c = omega (arith, ordered _ _ c.word_at-w.ensures, within _ _ c.word_at-w.ensures)
-
-pub slice_bounds-is_row-end : goal.slice_bounds-is_row-end
-slice_bounds-is_row-end c = omega (arith, ordered _ _ c.word_at-w.ensures, within _ _ c.word_at-w.ensures)
+returns-then-count-most c = many _ _ _ _ _ _ _ c.loop-w.invariant _ c.first_at-next.ensures.word c.first_at-next.ensures.rest _ c.is_slash-slash.ensures (tested _ _ c.is_empty.ensures c.if-slash-is_empty.false) c.if-count-most.true
 
 pub returns-then-not-is_row : goal.returns-then-not-is_row
 unfolding spanned
-returns-then-not-is_row c = unfit _ _ _ _ _ _ _ c.loop-kind.invariant c.word_at-w.ensures _ c.is_slash-slash.ensures c.if-slash-from.false
-    (sym c.is_row.ensures ∙ c.if-not-is_row.true)
+returns-then-not-is_row c = unfit _ _ _ _ _ _ _ c.loop-w.invariant _ c.first_at-next.ensures.word c.first_at-next.ensures.rest _ c.is_slash-slash.ensures (tested _ _ c.is_empty.ensures c.if-slash-is_empty.false) (sym c.is_row.ensures ∙ c.if-not-is_row.true)
 
-pub loop-kind-smaller : goal.loop-kind-smaller
-loop-kind-smaller c = omega (
-  arith,
-  some_byte _ _ _ _ _ _ _ c.loop-kind.invariant c.word_at-w.ensures _ c.is_slash-slash.ensures c.if-slash-from.false,
-  within _ _ c.word_at-w.ensures,
-  beyond _ _ c.word_at-w.ensures,
-)
+pub loop-w-smaller : goal.loop-w-smaller
+loop-w-smaller c = fewer _ _ _ _ _ _ _ c.loop-w.invariant _ c.first_at-next.ensures.word c.first_at-next.ensures.rest _ c.is_slash-slash.ensures (tested _ _ c.is_empty.ensures c.if-slash-is_empty.false)
 
-pub loop-kind-preserved : goal.loop-kind-preserved
-loop-kind-preserved c = passed-more _ _ _ _ _ _ _ c.loop-kind.invariant c.word_at-w.ensures _ c.is_slash-slash.ensures c.if-slash-from.false c.if-count-most.false
-    (sym c.is_row.ensures ∙ c.if-not-is_row.false)
+pub loop-w-preserved : goal.loop-w-preserved
+loop-w-preserved c = passed-more _ _ _ _ _ _ _ c.loop-w.invariant _ c.first_at-next.ensures.word c.first_at-next.ensures.rest _ c.is_slash-slash.ensures (tested _ _ c.is_empty.ensures c.if-slash-is_empty.false) c.if-count-most.false (sym c.is_row.ensures ∙ c.if-not-is_row.false)

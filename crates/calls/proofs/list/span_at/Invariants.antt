@@ -1,12 +1,12 @@
 -- `list::span_at` meets its contract. The loop's invariant: the words before `i` are rows of the list, and what is left makes it whole.
--- Each of them ends behind where it was looked for, so the loop ends. Assumes nothing.
-use Prim.Native.Nat.{◌-◌}
-use lib.ListN.{length}
+-- Each turn takes one of the words that are left, so the loop ends. Assumes nothing.
+use lib.ListN.{length, drop}
+use Rattle.words.specs.Words.{words_of}
 use Rattle.calls.proofs.Lists.{Passed}
 use Rattle.calls.proofs.list.span_at.Given as goal
 
-abbrev pub invariant-loop-kind : goal.invariant-loop-kind
-invariant-loop-kind l = Passed l.line l.at l.kind l.most l.before l.i l.count
+abbrev pub invariant-loop-w : goal.invariant-loop-w
+invariant-loop-w l = Passed l.line l.at l.kind l.most l.before l.i l.count
 
-abbrev pub decreases-loop-kind : goal.decreases-loop-kind
-decreases-loop-kind l = length l.line - l.i
+abbrev pub decreases-loop-w : goal.decreases-loop-w
+decreases-loop-w l = length (words_of (drop l.i l.line))

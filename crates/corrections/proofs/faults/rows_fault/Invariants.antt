@@ -1,12 +1,8 @@
--- `rows_fault` meets its contract: the rows from i on draw what all of them draw.
-use Prim.Native.Nat.{◌-◌, ◌≤◌}
+-- `rows_fault` meets its contract: the rows from a turn's on draw what all of them draw.
 use mathlib.Core.Path.{◌≡◌}
-use lib.ListN.{take}
-use Rattle.corrections.proofs.Rests.{rest, rows_drew}
+use lib.ListN.{drop}
+use Rattle.corrections.proofs.Rests.{rows_drew}
 use Rattle.corrections.proofs.faults.rows_fault.Given as goal
 
-abbrev pub invariant-loop-i : goal.invariant-loop-i
-invariant-loop-i l = (l.i ≤ l.n) × (rows_drew (rest l.rows l.n l.i) ≡ rows_drew (take l.n l.rows))
-
-abbrev pub decreases-loop-i : goal.decreases-loop-i
-decreases-loop-i l = l.n - l.i
+abbrev pub invariant-loop-row : goal.invariant-loop-row
+invariant-loop-row l = rows_drew (drop l.row-index l.rows) ≡ rows_drew l.rows

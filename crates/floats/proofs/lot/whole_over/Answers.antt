@@ -8,7 +8,7 @@ pub int_to_float-n : goal.int_to_float-n
 int_to_float-n c = holds c.whole_under-n.result (omega (arith, c.whole_under-n.ensures.1))
 
 pub returns-then-n-a : goal.returns-then-n-a
-returns-then-n-a c = (whole-more c.args.a c.whole_under-n.result c.requires.fact_1 c.requires.fact_2 c.whole_under-n.ensures.0 c.if-n-a.true, omega (arith, c.whole_under-n.ensures.1))
+returns-then-n-a c = (whole-more c.args.a c.whole_under-n.result c.requires.above_zero c.requires.in_range c.whole_under-n.ensures.0 c.if-n-a.true, omega (arith, c.whole_under-n.ensures.1))
 
 pub returns : goal.returns
-returns c = (whole_same c.args.a c.whole_under-n.result c.requires.fact_1 c.requires.fact_2 c.whole_under-n.ensures.0 c.if-n-a.false, omega (arith, c.whole_under-n.ensures.1))
+returns c = (whole_same c.args.a c.whole_under-n.result c.requires.above_zero c.requires.in_range c.whole_under-n.ensures.0 c.if-n-a.false, omega (arith, c.whole_under-n.ensures.1))

@@ -1,14 +1,13 @@
 -- the check by value, and its trades stored in the log
+use Rattle.std.proofs.Common.{arith}
 use Rattle.lent.proofs.Checked.{check-fits, check-answers}
 use Rattle.lent.proofs.uist.check.Goals as goal
 
-pub store_trades-requires : goal.store_trades-requires
-store_trades-requires c =
-    check-fits c.args.broker c.args.tradable.now c.args.fetched.now c.args.log.now c.read_table-t.result.table c.read_table-f.result.table c.check-x.result c.read_table-t.ensures c.read_table-f.ensures
-    c.check-x.ensures c.checked_trades-trades.result c.checked_count-n.result c.checked_first-first.result c.checked_trades-trades.ensures c.checked_count-n.ensures c.checked_first-first.ensures
+pub shared_ref_as_front-store : goal.shared_ref_as_front-store
+shared_ref_as_front-store c = (check-fits c.args.broker c.args.tradable.now c.args.fetched.now c.args.log.now c.of-t.ensures c.of-f.ensures c.check-checked.ensures).0
+
+pub store-requires : goal.store-requires
+store-requires c = omega (arith, (check-fits c.args.broker c.args.tradable.now c.args.fetched.now c.args.log.now c.of-t.ensures c.of-f.ensures c.check-checked.ensures).1)
 
 pub returns : goal.returns
-returns c =
-    check-answers c.args.broker c.args.tradable.now c.args.fetched.now c.args.log.now c.read_table-t.result.table c.read_table-f.result.table c.check-x.result c.read_table-t.ensures c.read_table-f.ensures
-    c.check-x.ensures c.checked_trades-trades.result c.checked_count-n.result c.checked_first-first.result c.checked_trades-trades.ensures c.checked_count-n.ensures c.checked_first-first.ensures
-    c.check_answer.result _ c.check_answer.ensures c.store_trades.ensures
+returns c = check-answers c.args.broker c.args.tradable.now c.args.fetched.now c.args.log.now c.of-t.ensures c.of-f.ensures c.check-checked.ensures _ c.store.ensures

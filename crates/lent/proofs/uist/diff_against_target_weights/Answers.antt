@@ -2,12 +2,11 @@
 use Rattle.lent.proofs.Plans.{walk-fits, walk-answers}
 use Rattle.lent.proofs.uist.diff_against_target_weights.Goals as goal
 
-pub store_orders-requires : goal.store_orders-requires
-store_orders-requires c =
-    walk-fits c.args.broker c.args.weights.now c.args.orders.now c.read_weights-w.result c.diff_against_target_weights-x.result c.read_weights-w.ensures c.diff_against_target_weights-x.ensures
-    c.walked_orders-rows.result c.walked_count-n.result c.walked_orders-rows.ensures c.walked_count-n.ensures
+pub shared_ref_as_front-store : goal.shared_ref_as_front-store
+shared_ref_as_front-store c = (walk-fits c.args.broker c.args.weights.now c.args.orders.now c.of-w.ensures c.diff_against_target_weights-walked.ensures).0
+
+pub store-requires : goal.store-requires
+store-requires c = (walk-fits c.args.broker c.args.weights.now c.args.orders.now c.of-w.ensures c.diff_against_target_weights-walked.ensures).1
 
 pub returns : goal.returns
-returns c =
-    walk-answers c.args.broker c.args.weights.now c.args.orders.now c.read_weights-w.result c.diff_against_target_weights-x.result c.read_weights-w.ensures c.diff_against_target_weights-x.ensures
-    c.walked_orders-rows.result c.walked_count-n.result c.walked_orders-rows.ensures c.walked_count-n.ensures c.walk_answer.result _ c.walk_answer.ensures c.store_orders.ensures
+returns c = walk-answers c.args.broker c.args.weights.now c.args.orders.now c.of-w.ensures c.diff_against_target_weights-walked.ensures _ c.store.ensures

@@ -1,10 +1,7 @@
 -- the first i orders are sent, and their events told
-use Rattle.std.proofs.Common.{◌-◌}
+use Rattle.std.proofs.Common.{take}
 use Rattle.lent.proofs.Sends.{Sends}
 use Rattle.lent.proofs.uist.send_orders.Given as goal
 
 abbrev pub invariant-loop-i : goal.invariant-loop-i
-invariant-loop-i l = Sends l.initial.b l.orders l.initial.events l.n l.b l.events l.i
-
-abbrev pub decreases-loop-i : goal.decreases-loop-i
-decreases-loop-i l = l.n - l.i
+invariant-loop-i l = Sends l.initial.broker (take l.n l.orders) l.initial.events l.broker l.events l.i

@@ -1,21 +1,24 @@
--- `line` meets its contract. Assumes nothing.
-use Prim.Native.Nat.{ℕ}
-use mathlib.Core.Path.{sym, ap, ◌∙◌}
-use mathlib.Core.List.{List}
-use lib.Seq.{length-take-le}
-use Rattle.numerals.specs.Numerals.{decimal_in, date_in, capped_in as capped_number}
-use Rattle.lines.specs.Lines.{before, behind, line_in}
-use Rattle.lines.proofs.Fields.{end-within, first_field, other-fields, quote-line}
+-- `line` meets its contract: the row of its fields is that of the line. Assumes nothing.
+use mir.Syntax.{w64}
+use mir.Val.{SFits}
+use mir.Facts.{to_z-of_z}
+use borrow.Author.Rules.{rules}
+use mathlib.Core.Path.{◌∙◌}
+use Rattle.lines.proofs.Fields.{line-row, no-symbol, no_date, no_bid, no_ask, is-row}
 use Rattle.lines.proofs.line.line.Goals as goal
 
-pub slice_bounds-decimal-end : goal.slice_bounds-decimal-end
-slice_bounds-decimal-end c = sym (length-take-le _ _ (end-within _ _ c.comma-end.ensures))
+pub returns-in_err-symbol : goal.returns-in_err-symbol
+returns-in_err-symbol c = c.from_residual.ensures ∙ no-symbol _ _ _ _ c.in_err-symbol.ensures ∙ line-row c.args.s.now c.field.ensures.first c.field.ensures.rest c.field-2.ensures.first c.field-2.ensures.rest c.field-3.ensures.first c.field-3.ensures.rest
+
+pub returns-in_err-date : goal.returns-in_err-date
+returns-in_err-date c = c.from_residual-in_err-date.ensures ∙ no_date _ _ _ _ c.in_err-date.ensures ∙ line-row c.args.s.now c.field.ensures.first c.field.ensures.rest c.field-2.ensures.first c.field-2.ensures.rest c.field-3.ensures.first c.field-3.ensures.rest
+
+pub returns-in_err-bid : goal.returns-in_err-bid
+returns-in_err-bid c = c.from_residual-in_err-bid.ensures ∙ no_bid _ _ _ _ c.in_err-bid.ensures ∙ line-row c.args.s.now c.field.ensures.first c.field.ensures.rest c.field-2.ensures.first c.field-2.ensures.rest c.field-3.ensures.first c.field-3.ensures.rest
+
+pub returns-in_err-ask : goal.returns-in_err-ask
+returns-in_err-ask c = c.from_residual-in_err-ask.ensures ∙ no_ask _ _ _ _ c.in_err-ask.ensures ∙ line-row c.args.s.now c.field.ensures.first c.field.ensures.rest c.field-2.ensures.first c.field-2.ensures.rest c.field-3.ensures.first c.field-3.ensures.rest
 
 pub returns : goal.returns
-unfolding line_in
-returns c = c.dated.ensures
-    ∙ rw (
-      c.decimal-symbol.ensures ∙ ap (λ (l : List ℕ). capped_number (decimal_in l)) (first_field c.args.s.now _ c.comma-end.ensures),
-      other-fields c.args.s.now _ c.comma-end.ensures _ c.past-start.ensures,
-    )
-    (quote-line (decimal_in (before c.args.s.now)) (date_in (before (behind c.args.s.now))) (before (behind (behind c.args.s.now))) (behind (behind (behind c.args.s.now))))
+returns c = let fits : SFits w64 c.in_ok-date.date = search rules in
+    rw (c.capped.ensures, to_z-of_z fits) (is-row c.in_ok-symbol.ensures c.in_ok-date.ensures c.in_ok-bid.ensures c.in_ok-ask.ensures) ∙ line-row c.args.s.now c.field.ensures.first c.field.ensures.rest c.field-2.ensures.first c.field-2.ensures.rest c.field-3.ensures.first c.field-3.ensures.rest

@@ -3,14 +3,12 @@ use Prim.Native.Nat.{◌+◌}
 use mathlib.Core.Path.{ap, sym, ◌∙◌}
 use native.Mathlib.Omega.{arith}
 use lib.ListN.{replicate, length-replicate, drop_of_length-le}
-use Rattle.words.proofs.Picks.{says}
-use Rattle.lines.specs.Reading.{quote_in}
 use Rattle.lines.proofs.Lines.{next-line, last_line}
 use Rattle.lines.proofs.Loading.{starts, refuses, ends, stops-missing, nothing_said, row-stops, GoesOn, row-goes-on}
 use Rattle.lines.proofs.read.lines_read.Goals as goal
 
 pub loop-at-init : goal.loop-at-init
-loop-at-init c = starts _ _ (length-replicate 257 c.blank-blank.result) (ap (replicate 257) c.blank-blank.ensures)
+loop-at-init c = starts _ _ (length-replicate 257 c.blank-rows.result) (ap (replicate 257) c.blank-rows.ensures)
 
 pub returns-then-end-input : goal.returns-then-end-input
 returns-then-end-input c = refuses c.args.input.now 19 _ c.refused.ensures (λ z. omega arith) (stops-missing c.loop-at.invariant (last_line c.args.input.now c.loop-at.at _ c.loop-at-test.true c.next-end.ensures c.if-end-input.true))
@@ -18,17 +16,17 @@ returns-then-end-input c = refuses c.args.input.now 19 _ c.refused.ensures (λ z
 pub returns-in_default : goal.returns-in_default
 returns-in_default c =
     refuses c.args.input.now 19 _ c.refused-in_default.ensures (λ z. omega arith)
-    (nothing_said c.loop-at.invariant _ (c.next-end.result + 1) (next-line c.args.input.now c.loop-at.at _ c.loop-at-test.true c.next-end.ensures c.if-end-input.false) (says quote_in c.line.ensures c.in_default.is))
+    (nothing_said c.loop-at.invariant _ (c.next-end.result + 1) (next-line c.args.input.now c.loop-at.at _ c.loop-at-test.true c.next-end.ensures c.if-end-input.false) c.in_default.ensures)
 
 pub returns-then-fault-ne0 : goal.returns-then-fault-ne0
 returns-then-fault-ne0 c =
     refuses c.args.input.now _ _ c.refused-then-fault-ne0.ensures c.if-fault-ne0.true
-    (row-stops c.loop-at.invariant _ (c.next-end.result + 1) (next-line c.args.input.now c.loop-at.at _ c.loop-at-test.true c.next-end.ensures c.if-end-input.false) c.in-Of.q (says quote_in c.line.ensures c.in-Of.is) _ c.fault-fault.ensures c.if-fault-ne0.true)
+    (row-stops c.loop-at.invariant _ (c.next-end.result + 1) (next-line c.args.input.now c.loop-at.at _ c.loop-at-test.true c.next-end.ensures c.if-end-input.false) c.in-Some.q c.in-Some.ensures _ c.fault-fault.ensures c.if-fault-ne0.true)
 
 -- a row that draws nothing
-good : (c : goal.Else-fault-ne0) → GoesOn c.args.input.now c.loop-at.rows c.loop-at.n c.in-Of.q (c.next-end.result + 1)
+good : (c : goal.Else-fault-ne0) → GoesOn c.args.input.now c.loop-at.rows c.loop-at.n c.in-Some.q (c.next-end.result + 1)
 good c =
-    row-goes-on c.loop-at.invariant _ (c.next-end.result + 1) (next-line c.args.input.now c.loop-at.at _ c.loop-at-test.true c.next-end.ensures c.if-end-input.false) c.in-Of.q (says quote_in c.line.ensures c.in-Of.is)
+    row-goes-on c.loop-at.invariant _ (c.next-end.result + 1) (next-line c.args.input.now c.loop-at.at _ c.loop-at-test.true c.next-end.ensures c.if-end-input.false) c.in-Some.q c.in-Some.ensures
     (sym c.fault-fault.ensures ∙ c.if-fault-ne0.false)
 
 pub offset_bounds-rows-n : goal.offset_bounds-rows-n
@@ -39,15 +37,15 @@ bounds-rows-n c = omega (arith, (good c).room)
 
 pub overflow_add-least : goal.overflow_add-least
 overflow_add-least c =
-    let on : GoesOn c.args.input.now c.loop-at.rows c.loop-at.n c.in-Of.q (c.next-end.result + 1) =
-    row-goes-on c.loop-at.invariant _ (c.next-end.result + 1) (next-line c.args.input.now c.loop-at.at _ c.loop-at-test.true c.next-end.ensures c.if-end-input.false) c.in-Of.q (says quote_in c.line.ensures c.in-Of.is)
+    let on : GoesOn c.args.input.now c.loop-at.rows c.loop-at.n c.in-Some.q (c.next-end.result + 1) =
+    row-goes-on c.loop-at.invariant _ (c.next-end.result + 1) (next-line c.args.input.now c.loop-at.at _ c.loop-at-test.true c.next-end.ensures c.if-end-input.false) c.in-Some.q c.in-Some.ensures
     (sym c.fault-fault.ensures ∙ c.if-fault-ne0.false) in
     omega (arith, on.high)
 
 pub loop-at-preserved : goal.loop-at-preserved
 loop-at-preserved c =
-    let on : GoesOn c.args.input.now c.loop-at.rows c.loop-at.n c.in-Of.q (c.next-end.result + 1) =
-    row-goes-on c.loop-at.invariant _ (c.next-end.result + 1) (next-line c.args.input.now c.loop-at.at _ c.loop-at-test.true c.next-end.ensures c.if-end-input.false) c.in-Of.q (says quote_in c.line.ensures c.in-Of.is)
+    let on : GoesOn c.args.input.now c.loop-at.rows c.loop-at.n c.in-Some.q (c.next-end.result + 1) =
+    row-goes-on c.loop-at.invariant _ (c.next-end.result + 1) (next-line c.args.input.now c.loop-at.at _ c.loop-at-test.true c.next-end.ensures c.if-end-input.false) c.in-Some.q c.in-Some.ensures
     (sym c.fault-fault.ensures ∙ c.if-fault-ne0.false) in
     on.on
 

@@ -1,10 +1,6 @@
--- `put_rows` meets its contract: after i turns the lines of the first i symbols stand in the buffer. Assumes nothing.
-use Prim.Native.Nat.{◌-◌}
+-- `put_rows` meets its contract: the lines of the symbols so far stand in the buffer. Assumes nothing.
 use Rattle.lines.proofs.Texts.{PutTo}
 use Rattle.lines.proofs.write.put_rows.Given as goal
 
-abbrev pub invariant-loop-i : goal.invariant-loop-i
-invariant-loop-i l = PutTo l.t l.initial.out l.out l.at l.i
-
-abbrev pub decreases-loop-i : goal.decreases-loop-i
-decreases-loop-i l = 256 - l.i
+abbrev pub invariant-loop-symbol : goal.invariant-loop-symbol
+invariant-loop-symbol l = PutTo l.fn.t l.initial.out l.out l.at l.symbol

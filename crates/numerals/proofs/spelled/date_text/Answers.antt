@@ -11,16 +11,16 @@ use Rattle.numerals.proofs.Stores.{spells}
 use Rattle.numerals.proofs.spelled.date_text.Goals as goal
 
 pub returns-then-date-ge0 : goal.returns-then-date-ge0
-returns-then-date-ge0 c = rw (by_size c.args.date c.ranges.date c.magnitude-n.result c.magnitude-n.ensures true c.if-date-ge0.true) c.decimal_text.ensures
+returns-then-date-ge0 c = rw (by_size c.args.date c.ranges.date c.unsigned_abs-n.result c.unsigned_abs-n.ensures.value true c.if-date-ge0.true) c.decimal_text.ensures
 
 pub spell-requires : goal.spell-requires
-spell-requires c = (omega (arith, size_few c.args.date c.ranges.date c.magnitude-n.result c.magnitude-n.ensures), omega arith, omega arith)
+spell-requires c = (omega (arith, size_few c.args.date c.ranges.date c.unsigned_abs-n.result c.unsigned_abs-n.ensures.value), omega arith, omega arith)
 
 pub overflow_add-result : goal.overflow_add-result
-overflow_add-result c = omega (arith, size_few c.args.date c.ranges.date c.magnitude-n.result c.magnitude-n.ensures)
+overflow_add-result c = omega (arith, size_few c.args.date c.ranges.date c.unsigned_abs-n.result c.unsigned_abs-n.ensures.value)
 
 pub returns : goal.returns
 returns c = let text =
-    by_size c.args.date c.ranges.date c.magnitude-n.result c.magnitude-n.ensures false c.if-date-ge0.false
-    ∙ ap (λ (j : ℕ). 45 ∷ last_digits 10 j c.magnitude-n.result) (sym c.places-k.ensures) in
-    spells (replicate 20 45) 1 10 c.places-k.result c.magnitude-n.result _ _ (omega arith) text (omega arith) c.spell.ensures
+    by_size c.args.date c.ranges.date c.unsigned_abs-n.result c.unsigned_abs-n.ensures.value false c.if-date-ge0.false
+    ∙ ap (λ (j : ℕ). 45 ∷ last_digits 10 j c.unsigned_abs-n.result) (sym c.places-k.ensures) in
+    spells (replicate 20 45) 1 10 c.places-k.result c.unsigned_abs-n.result _ _ (omega arith) text (omega arith) c.spell.ensures

@@ -7,4 +7,4 @@ use Rattle.numerals.proofs.Stores.{spells}
 use Rattle.numerals.proofs.spelled.float_text.Goals as goal
 
 pub returns : goal.returns
-returns c = spells (replicate 20 0) 0 16 16 c.bits.result _ _ (omega arith) (ap hex16 (sym c.bits.ensures)) (omega arith) c.spell.ensures
+returns c = spells (replicate 20 0) 0 16 16 c.f64_to_bits_with_nan.result _ _ (omega arith) (ap hex16 (sym c.f64_to_bits_with_nan.ensures)) (omega arith) c.spell.ensures

@@ -1,13 +1,6 @@
--- `spelled::places` meets its contract: what is counted, with the places of what is left, is one more than all of them. Assumes nothing.
-use native.Mathlib.Omega.{arith}
-use Rattle.numerals.proofs.Places.{places-one, places-suc, places-most}
+-- `spelled::places` meets its contract: 0 has as many digits as 1. Assumes nothing.
+use Rattle.numerals.proofs.Places.{by-power}
 use Rattle.numerals.proofs.spelled.places.Goals as goal
 
-pub overflow_add-k : goal.overflow_add-k
-overflow_add-k c = omega (arith, places-most 19 c.args.n (omega arith))
-
-pub loop-rest-preserved : goal.loop-rest-preserved
-loop-rest-preserved c = omega (arith, places-suc c.loop-rest.rest c.loop-rest-test.true)
-
 pub returns : goal.returns
-returns c = omega (arith, places-one c.loop-rest.rest (omega arith))
+returns c = by-power c.args.n c.max.result c.ilog10.result c.max.ensures c.ilog10.ensures.power_le c.ilog10.ensures.next_power_gt

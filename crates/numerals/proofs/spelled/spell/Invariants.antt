@@ -8,6 +8,3 @@ use Rattle.numerals.proofs.spelled.spell.Given as goal
 
 abbrev pub invariant-loop-i : goal.invariant-loop-i
 invariant-loop-i l = (l.i ≤ l.k) × (length l.text ≡ 20) × (stored l.text l.at (last_digits l.base l.i l.rest) ≡ stored l.initial.text l.at (last_digits l.base l.k l.n))
-
-abbrev pub decreases-loop-i : goal.decreases-loop-i
-decreases-loop-i l = l.i

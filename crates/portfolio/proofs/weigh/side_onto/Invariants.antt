@@ -1,10 +1,9 @@
--- `side_onto` meets its contract: the orders so far, and those of the side that are left, come to the whole.
-use Prim.Native.Nat.{◌-◌}
-use Rattle.portfolio.proofs.Weighing.{SideAt}
+-- `side_onto` meets its contract: the orders of the side so far stand behind the others.
+use mathlib.Core.Path.{◌≡◌}
+use lib.ListN.{take}
+use Rattle.orders.specs.Orders.{of_side}
+use Rattle.portfolio.specs.Lists.{onto_of}
 use Rattle.portfolio.proofs.weigh.side_onto.Given as goal
 
-abbrev pub invariant-loop-i : goal.invariant-loop-i
-invariant-loop-i l = SideAt l.initial.out l.sells l.list l.out l.n l.i
-
-abbrev pub decreases-loop-i : goal.decreases-loop-i
-decreases-loop-i l = 256 - l.i
+abbrev pub invariant-loop-o : goal.invariant-loop-o
+invariant-loop-o l = l.out ≡ onto_of l.initial.out (of_side l.sells (take l.o-index l.o-items))

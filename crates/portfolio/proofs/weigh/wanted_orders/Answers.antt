@@ -1,50 +1,42 @@
 -- `wanted_orders` meets its contract: the orders so far, and those of the weights that are left, are the whole walk.
-use mathlib.Core.Path.{ap, ◌∙◌}
+use mathlib.Core.Path.{ap, sym, ◌∙◌}
 use native.Mathlib.Omega.{arith}
-use lib.ListN.{length, get_or, length-replicate}
-use Rattle.market.specs.Orders.{blank_order}
-use Rattle.portfolio.specs.Lists.{no_orders}
-use Rattle.portfolio.specs.Weigh.{wanted_in}
-use Rattle.portfolio.specs.declared.list.OrderList.{OrderList}
+use lib.ListN.{get_or}
 use Rattle.market.proofs.Weights.{no_weight}
-use Rattle.portfolio.proofs.Weighing.{ReadAt, then-all, walk-end-first, walk-end-last, walk-stops, walk-breaks, walk-lists-none, walk-lists}
+use Rattle.std.specs.declared.option.Option.TheVariants.{Some}
+use Rattle.portfolio.specs.Weigh.{row_in}
+use Rattle.portfolio.specs.Lists.{listed_in}
+use Rattle.portfolio.proofs.Weighing.{walk-starts, walk_end, walk-stops, walk-breaks, walk-lists-none, walk-lists, zero-read, row-read}
+use Rattle.portfolio.proofs.Symbols.{worth}
 use Rattle.portfolio.proofs.weigh.wanted_orders.Goals as goal
-use Rattle.portfolio.proofs.weigh.wanted_orders.Goals.{in-Listed, in-Nothing, else-loop-i-test, then-loop-i-test+then-i-count, then-loop-i-test+else-i-count+then-difference}
+use Rattle.portfolio.proofs.weigh.wanted_orders.Goals.{in-Some, in_default}
 
-pub loop-i-init : goal.loop-i-init
-unfolding no_orders
-loop-i-init c = record {
-  long = c.well_formed.1.1.0.1.0.1;
-  wide = ap (λ (l : OrderList). length l.orders) c.none-list.ensures ∙ length-replicate 256 blank_order;
-  few = omega arith;
-  rest = then-all _;
-}
+pub loop-w-init : goal.loop-w-init
+loop-w-init c = walk-starts _ _ _ _ c.none-list.ensures
 
-pub offset_bounds-list-n : goal.offset_bounds-list-n
-offset_bounds-list-n c = omega (arith, c.loop-i-test.true, c.loop-i.invariant.few)
+pub returns-in_err-order : goal.returns-in_err-order
+returns-in_err-order c =
+    let v = worth _ _ _ c.unwrap_or-value.ensures c.value_of.ensures in
+    let w = get_or c.args.rows.now c.loop-w.w-index no_weight in
+    ap listed_in c.from_residual.ensures
+    ∙ walk-breaks c.loop-w.invariant c.loop-w-test.true (zero-read c.args.p.now c.args.total w _ _ v c.if-difference.false)
+    (ap row_in (sym c.in_err-order.was) ∙ c.wanted_at.ensures ∙ row-read c.args.p.now c.args.total w _ _ v c.row-row.ensures)
 
-pub bounds-list-n : goal.bounds-list-n
-bounds-list-n c = (
-    omega (arith, c.loop-i-test.true, c.loop-i.invariant.few))
-
-pub overflow_add-n : goal.overflow_add-n
-overflow_add-n c = omega (arith, c.loop-i-test.true, c.loop-i.invariant.few)
-
-pub returns-in-Beyond : goal.returns-in-Beyond
-returns-in-Beyond c = ap wanted_in c.walked.ensures
-    ∙ walk-breaks c.args.p _ _ _ _ _ _ c.loop-i.invariant c.loop-i-test.true c.if-i-count.false _ _ _ (record { quoted = c.has_row-present.ensures; worth = c.value_at.ensures; amount = c.or_zero-v.ensures }) c.if-difference.false _ c.wanted_at-x.ensures
-    c.in-Beyond.is
-
-pub loop-i-preserved : goal.loop-i-preserved
-loop-i-preserved c = let r : ReadAt c.args.p (get_or c.args.rows c.loop-i.i no_weight).symbol c.has_row-present.result c.value_at.result c.or_zero-v.result = (record { quoted = c.has_row-present.ensures; worth = c.value_at.ensures; amount = c.or_zero-v.ensures }) in
-    elim c.match-x.branch [ in-Listed w ↦ walk-lists c.args.p _ _ _ _ _ _ c.loop-i.invariant c.loop-i-test.true c.if-i-count.false _ _ _ r c.if-difference.false _ c.wanted_at-x.ensures _ _ _ w.in-Listed.is (ap (λ (l : OrderList). l.orders) w.list-is) w.n-is | in-Nothing w ↦ walk-lists-none c.args.p _ _ _ _ _ _ c.loop-i.invariant c.loop-i-test.true c.if-i-count.false _ _ _ r c.if-difference.false _ c.wanted_at-x.ensures _ _ w.in-Nothing.is w.list-is w.n-is ]
-
-pub returns : goal.returns
-returns c = ap wanted_in c.walked-2.ensures
-    ∙ elim c.loop-i-test.branch [
-      | else-loop-i-test w ↦ walk-end-last _ _ _ _ _ _ _ c.loop-i.invariant w.loop-i-test.false
-      | then-loop-i-test+then-i-count w ↦ walk-end-first _ _ _ _ _ _ _ c.loop-i.invariant w.if-i-count.true
-      | then-loop-i-test+else-i-count+then-difference w ↦
-          walk-stops c.args.p _ _ _ _ _ _ c.loop-i.invariant w.loop-i-test.true w.if-i-count.false w.has_row-present.result w.value_at.result w.or_zero-v.result
-          (record { quoted = w.has_row-present.ensures; worth = w.value_at.ensures; amount = w.or_zero-v.ensures }) w.if-difference.true
+pub loop-w-preserved : goal.loop-w-preserved
+loop-w-preserved c =
+    let v = worth _ _ _ c.unwrap_or-value.ensures c.value_of.ensures in
+    let w = get_or c.args.rows.now c.loop-w.w-index no_weight in
+    let here = zero-read c.args.p.now c.args.total w _ _ v c.if-difference.false in
+    let row = c.wanted_at.ensures ∙ row-read c.args.p.now c.args.total w _ _ v c.row-row.ensures in
+    elim c.match-branch-2.branch [
+      | in-Some w ↦ walk-lists c.loop-w.invariant c.loop-w-test.true here _ (omega (arith, c.loop-w-test.true, c.requires)) w.in-Some.order (ap row_in (ap Some (sym w.in-Some.is) ∙ sym c.in_ok-order.was) ∙ row) (w.list-is ∙ w.push.ensures)
+      | in_default w ↦ walk-lists-none c.loop-w.invariant c.loop-w-test.true here _ (ap row_in (ap Some (sym w.in_default.is) ∙ sym c.in_ok-order.was) ∙ row) w.list-is
     ]
+
+pub returns-after-loop-w : goal.returns-after-loop-w
+returns-after-loop-w c = walk_end c.loop-w.invariant c.loop-w-test.false
+
+pub returns-then-difference : goal.returns-then-difference
+returns-then-difference c =
+    walk-stops c.loop-w.invariant c.loop-w-test.true
+    (zero-read c.args.p.now c.args.total (get_or c.args.rows.now c.loop-w.w-index no_weight) _ _ (worth _ _ _ c.unwrap_or-value.ensures c.value_of.ensures) c.if-difference.true)

@@ -3,4 +3,4 @@ use Rattle.vendor.proofs.Answering.{write-answers}
 use Rattle.vendor.proofs.quote_lines.write_lines.Goals as goal
 
 pub returns : goal.returns
-returns c = write-answers c.args.table.now c.read_table-t.result.table c.args.out.now _ c.write.result c.read_table-t.ensures c.write.ensures
+returns c = write-answers c.args.table.now c.of.result.table c.args.out.now _ c.write.result c.of.ensures c.write.ensures

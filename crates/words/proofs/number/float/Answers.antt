@@ -1,34 +1,32 @@
 -- `number::float` meets its contract: what the digits that are left make of n is what the whole word makes. Assumes nothing.
 use mathlib.Core.Path.{ap, ◌∙◌}
-use mathlib.Core.Option.{some}
 use native.Mathlib.Omega.{arith}
-use Rattle.words.proofs.Digits.{not-sixteen, sixteen, next-bits, bad-bits, shifts, small, all-bits}
+use Rattle.std.specs.declared.option.Option.TheVariants.{Some}
+use Rattle.words.proofs.Digits.{not-sixteen, sixteen, digit-some, next-bits, bad-bits, shifts, small, all-bits}
 use Rattle.words.proofs.number.float.Goals as goal
 
 pub returns-then-s-ne16 : goal.returns-then-s-ne16
 returns-then-s-ne16 c = not-sixteen c.args.s.now c.if-s-ne16.true
 
-pub loop-i-init : goal.loop-i-init
-loop-i-init c = (omega arith, omega arith, sixteen c.args.s.now c.if-s-ne16.false)
-
-pub returns-then-d-gt15 : goal.returns-then-d-gt15
-returns-then-d-gt15 c = bad-bits c.args.s.now c.loop-i.n c.loop-i.i c.digit-d.result c.loop-i-test.true c.digit-d.ensures c.if-d-gt15.true
-    ∙ c.loop-i.invariant.2
+pub loop-b-init : goal.loop-b-init
+loop-b-init c = (omega arith, sixteen c.args.s.now c.if-s-ne16.false)
 
 pub overflow_mul-n : goal.overflow_mul-n
-overflow_mul-n c = omega (arith, small c.loop-i.n c.loop-i.i c.loop-i.invariant.1 (omega arith))
+overflow_mul-n c = omega (arith, small c.loop-b.n c.loop-b.b-index c.loop-b.invariant.0 (omega arith))
+
+pub returns-in_err-n : goal.returns-in_err-n
+returns-in_err-n c = c.from_residual.ensures ∙ bad-bits c.args.s.now c.loop-b.n c.loop-b.b-index c.loop-b-test.true c.in_err-n.ensures ∙ c.loop-b.invariant.1
 
 pub overflow_add-n : goal.overflow_add-n
-overflow_add-n c = omega (arith, small c.loop-i.n c.loop-i.i c.loop-i.invariant.1 (omega arith))
+overflow_add-n c = omega (arith, small c.loop-b.n c.loop-b.b-index c.loop-b.invariant.0 (omega arith), (digit-some _ _ c.in_ok-n.ensures).1)
 
-pub loop-i-preserved : goal.loop-i-preserved
-loop-i-preserved c = (
-  omega arith,
-  shifts c.loop-i.n c.loop-i.i c.digit-d.result c.loop-i.invariant.1 c.if-d-gt15.false,
-  next-bits c.args.s.now c.loop-i.n c.loop-i.i c.digit-d.result c.loop-i-test.true c.digit-d.ensures c.if-d-gt15.false ∙ c.loop-i.invariant.2,
+pub loop-b-preserved : goal.loop-b-preserved
+loop-b-preserved c = (
+  shifts c.loop-b.n c.loop-b.b-index c.in_ok-n.field-0 c.loop-b.invariant.0 (digit-some _ _ c.in_ok-n.ensures).1,
+  next-bits c.args.s.now c.loop-b.n c.loop-b.b-index c.loop-b-test.true c.in_ok-n.field-0 c.in_ok-n.ensures ∙ c.loop-b.invariant.1,
 )
 
 pub returns : goal.returns
-returns c = ap some c.of_bits.ensures
-    ∙ all-bits c.args.s.now c.loop-i.n c.loop-i.i c.loop-i-test.false
-    ∙ c.loop-i.invariant.2
+returns c = ap Some c.f64_from_bits_with_nan.ensures
+    ∙ all-bits c.args.s.now c.loop-b.n c.loop-b.b-index c.loop-b-test.false
+    ∙ c.loop-b.invariant.1

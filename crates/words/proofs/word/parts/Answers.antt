@@ -1,14 +1,14 @@
--- `word::parts` meets its contract: the parts counted and those of what is left are one more than all, the part in hand being counted twice. Assumes nothing.
-use native.Mathlib.Omega.{arith}
-use Rattle.words.proofs.Splits.{none_left, counted, passed}
+-- `word::parts` meets its contract: a word has one part more than it has colons. Assumes nothing.
+use Rattle.std.proofs.Common.{rules}
+use mathlib.Core.Path.{◌≡◌, sym, ap, ◌∙◌}
+use Prim.Native.Nat.{ℕ, ◌+◌}
+use lib.ListN.{length}
+use lib.Dec.{eqb}
+use Rattle.std.specs.List.{count_by}
+use Rattle.std.proofs.lemmas.List.Splits.{length-slice_split}
+use Rattle.words.proofs.Splits.{split-is}
 use Rattle.words.proofs.word.parts.Goals as goal
-use Rattle.words.proofs.word.parts.Goals.{then-w-i-eq58, else-w-i-eq58}
-
-pub loop-i-preserved : goal.loop-i-preserved
-loop-i-preserved c = elim c.if-w-i-eq58.branch [
-  | then-w-i-eq58 w ↦ (omega arith, omega (arith, counted 58 c.args.w.now c.loop-i.i c.loop-i-test.true w.if-w-i-eq58.true))
-  | else-w-i-eq58 w ↦ (omega arith, omega (arith, passed 58 c.args.w.now c.loop-i.i c.loop-i-test.true w.if-w-i-eq58.false))
-]
 
 pub returns : goal.returns
-returns c = omega (arith, c.loop-i.invariant.1, none_left 58 c.args.w.now c.loop-i.i c.loop-i-test.false)
+returns c = let colons : c.count.result ≡ count_by (λ x. eqb x 58) c.args.w.now = search rules in
+    ap (λ (n : ℕ). n + 1) colons ∙ sym (length-slice_split (λ x. eqb x 58) c.args.w.now) ∙ ap length (sym (split-is 58 c.args.w.now))

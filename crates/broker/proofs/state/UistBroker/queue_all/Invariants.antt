@@ -1,13 +1,14 @@
--- `UistBroker::queue_all` meets its contract as `send_all` does: its events are told nobody. Assumes nothing.
-use Prim.Native.Nat.{◌-◌}
-use mathlib.Core.List.{List}
-use Rattle.broker.proofs.Sending.{broker_with, Inv}
-use Rattle.market.specs.declared.order.OrderEvent.{OrderEvent}
+-- `UistBroker::queue_all` meets its contract: the orders so far are sent, and what is left fits. Assumes nothing.
+use Prim.Native.Nat.{◌≤◌}
+use mathlib.Core.Path.{◌≡◌}
+use lib.ListN.{take}
+use Rattle.broker.specs.Send.{SendsFit, sent_all}
 use Rattle.broker.proofs.state.UistBroker.queue_all.Given as goal
 
-abbrev pub invariant-loop-i : goal.invariant-loop-i
-invariant-loop-i l = (events : List OrderEvent)
-    × Inv (broker_with l.latest l.portfolio.costs l.portfolio.lot l.funds l.initial.book l.initial.counts l.initial.pending l.initial.awaited) l.list (broker_with l.latest l.portfolio.costs l.portfolio.lot l.funds l.book l.counts l.pending l.awaited) events l.i
-
-abbrev pub decreases-loop-i : goal.decreases-loop-i
-decreases-loop-i l = 256 - l.i
+abbrev pub invariant-loop-o : goal.invariant-loop-o
+invariant-loop-o l =
+    record {
+      sent : l.self ≡ sent_all l.fn.self (take l.o-index l.orders);
+      few : l.taken ≤ l.o-index;
+      fits : SendsFit l.self.exchange.counts;
+    }

@@ -43,11 +43,11 @@ room e o n d z =
 place : (e : UistV1) (o : Order) (n : ℕ) (j : Joining) → n ≡ drawn (insert_tests e.counts o) → n ≡ 0 → j ≡ join_of e.counts → j.at < 1024
 place e o n j d z p = join-place e _ p (room e o n d z)
 
-pub offset_bounds-s-at : goal.offset_bounds-s-at
-offset_bounds-s-at c = omega (arith, place c.args.self c.args.order _ _ c.insert_fault-fault.ensures c.if-fault-eq0.true c.join-join.ensures)
+pub offset_bounds-exchange-join : goal.offset_bounds-exchange-join
+offset_bounds-exchange-join c = omega (arith, place c.args.self c.args.order _ _ c.insert_fault-fault.ensures c.if-fault-eq0.true c.join-join.ensures)
 
-pub bounds-s-at : goal.bounds-s-at
-bounds-s-at c = place c.args.self c.args.order _ _ c.insert_fault-fault.ensures c.if-fault-eq0.true c.join-join.ensures
+pub bounds-exchange-join : goal.bounds-exchange-join
+bounds-exchange-join c = place c.args.self c.args.order _ _ c.insert_fault-fault.ensures c.if-fault-eq0.true c.join-join.ensures
 
 pub returns-then-fault-eq0 : goal.returns-then-fault-eq0
 returns-then-fault-eq0 c = ap (λ (x : UistV1). record { exchange = x; fault = c.insert_fault-fault.result })

@@ -1,7 +1,5 @@
 -- `tick` meets its contract: what its calls give, put together, is the tick's definition, also where a number is drawn and
 -- nothing trades or is booked.
--- ---- the counts
--- ---- what the calls give
 use Rattle.std.proofs.Common.{◌≡◌, ℕ, zero, suc, ◌+◌, ◌-◌, ◌≤◌, List, map, take, drop, sym, ap, ◌∙◌, arith}
 use Rattle.lists.specs.Lists.{keep}
 use Rattle.market.specs.Faults.{unless_drawn, first_drawn}
@@ -100,17 +98,17 @@ number_is c n b f h e = h ∙ ap (λ (k : ℕ). first_drawn k f) e
 over-fits : (c : Counts) (f n r w : ℕ) → n ≡ first_drawn (broken_fault c) f → r ≡ unless_drawn n c.resting 0 → w ≡ unless_drawn n c.waits 0 → r + w ≤ 1024
 over-fits c f n r w h hr hw = omega (arith, hr, hw, fits c f n h)
 
-pub execute_orders-x-requires : goal.execute_orders-x-requires
-execute_orders-x-requires c = omega (arith, over-fits c.args.self.counts c.table-table.result.fault _ _ _ (number_is c.args.self.counts _ _ c.table-table.result.fault c.first-fault.ensures c.fault.ensures) c.count_unless-resting.ensures c.count_unless-waits.ensures)
+pub execute_orders-kept-requires : goal.execute_orders-kept-requires
+execute_orders-kept-requires c = omega (arith, over-fits c.args.self.counts c.table-table.result.fault _ _ _ (number_is c.args.self.counts _ _ c.table-table.result.fault c.first-fault.ensures c.fault.ensures) c.count_unless-resting.ensures c.count_unless-waits.ensures)
 
-pub book_waiting-b-requires : goal.book_waiting-b-requires
-book_waiting-b-requires c = (over-fits c.args.self.counts c.table-table.result.fault _ _ _ (number_is c.args.self.counts _ _ c.table-table.result.fault c.first-fault.ensures c.fault.ensures) c.count_unless-resting.ensures c.count_unless-waits.ensures, omega (arith, kept-fits _ _ _ _ c.execute_orders-x.ensures))
+pub book_waiting-requires : goal.book_waiting-requires
+book_waiting-requires c = (over-fits c.args.self.counts c.table-table.result.fault _ _ _ (number_is c.args.self.counts _ _ c.table-table.result.fault c.first-fault.ensures c.fault.ensures) c.count_unless-resting.ensures c.count_unless-waits.ensures, omega (arith, kept-fits _ _ _ _ c.execute_orders-kept.ensures))
 
-pub counts_after-counts-requires : goal.counts_after-counts-requires
-counts_after-counts-requires c z = logs-fit c.args.self.counts c.table-table.result.fault _ _ (number_is c.args.self.counts _ _ c.table-table.result.fault c.first-fault.ensures c.fault.ensures)
-    (omega (arith, kept-fits _ _ _ _ c.execute_orders-x.ensures, c.count_unless-resting.ensures)) z
+pub after-requires : goal.after-requires
+after-requires c z = logs-fit c.args.self.counts c.table-table.result.fault _ _ (number_is c.args.self.counts _ _ c.table-table.result.fault c.first-fault.ensures c.fault.ensures)
+    (omega (arith, kept-fits _ _ _ _ c.execute_orders-kept.ensures, c.count_unless-resting.ensures)) z
 
 pub returns : goal.returns
 returns c = done _ _ _ _ _ _ _ _ _ (number_is c.args.self.counts _ _ c.table-table.result.fault c.first-fault.ensures c.fault.ensures) c.count_unless-resting.ensures c.count_unless-waits.ensures
-    c.execute_orders-x.ensures c.book_waiting-b.ensures c.counts_after-counts.ensures c.count_unless.ensures
+    c.execute_orders-kept.ensures c.book_waiting.ensures c.after.ensures c.count_unless.ensures
     ∙ ap (tick_of _) c.table-table.ensures

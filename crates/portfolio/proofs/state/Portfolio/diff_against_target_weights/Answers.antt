@@ -1,33 +1,25 @@
--- `Portfolio::diff_against_target_weights` meets its contract: no order where a number is drawn; else both sides of the walk's orders, put onto an empty list,
--- are all of them. Assumes nothing.
-use Prim.Native.Nat.{ℕ}
-use mathlib.Core.Path.{ap, ap₂, ◌∙◌}
-use mathlib.Core.List.{List}
-use native.Mathlib.Omega.{arith}
-use Rattle.portfolio.specs.State.{money_of}
-use Rattle.portfolio.specs.Lists.{no_orders}
+-- `Portfolio::diff_against_target_weights` meets its contract: no order where a number is drawn, else those of the walk, sales first. Assumes nothing.
+use mathlib.Core.Path.{ap}
+use Rattle.std.proofs.Common.{rules}
 use Rattle.market.specs.Weights.{weighed}
-use Rattle.market.specs.declared.weight.Weight.{Weight}
-use Rattle.rules.specs.Weights.{wanted}
-use Rattle.portfolio.specs.declared.list.OrderList.{OrderList}
-use Rattle.portfolio.proofs.Weighing.{counted, onto-few, plan-none, plan-lists}
+use Rattle.portfolio.specs.State.{money_of}
+use Rattle.portfolio.specs.Lists.{no_orders, listed, listed_in}
+use Rattle.portfolio.proofs.Weighing.{counted, plan-worthless, plan-beyond, plan-lists}
 use Rattle.portfolio.proofs.state.Portfolio.diff_against_target_weights.Goals as goal
 
-pub returns-then-fault-ne0 : goal.returns-then-fault-ne0
-returns-then-fault-ne0 c = plan-none (money_of c.args.self) (weighed c.args.weights) _ c.get_liquidation_value-total.ensures c.wanted_orders-walk.result (
-    c.wanted_orders-walk.ensures
-    ∙ ap₂ (λ (n : ℕ) (l : List Weight). wanted (money_of c.args.self) c.get_liquidation_value-total.result (counted l n)) c.count.ensures c.rows.ensures) _ c.plan_fault-fault.ensures _
-    c.none-none.ensures c.if-fault-ne0.true
-
-pub side_onto-sales-requires : goal.side_onto-sales-requires
+pub returns-then-total : goal.returns-then-total
 unfolding no_orders
-side_onto-sales-requires c = omega (arith, ap (λ (o : OrderList). o.count) c.none-none.ensures)
+returns-then-total c = plan-worthless _ _ _ c.get_liquidation_value-total.ensures c.if-total.true _ _ (search rules) (search rules)
 
-pub side_onto-requires : goal.side_onto-requires
-side_onto-requires c = onto-few _ _ _ c.side_onto-sales.ensures
+pub returns-in_default : goal.returns-in_default
+unfolding no_orders
+returns-in_default c =
+    plan-beyond (money_of c.args.self) (weighed c.args.weights) _ c.get_liquidation_value-total.ensures c.if-total.false (listed_in c.wanted_orders.result)
+    (counted (money_of c.args.self) _ c.args.weights _ _ _ c.rows-rows.ensures c.count.ensures c.min-count.ensures (search rules) _ c.wanted_orders.ensures) (ap listed_in c.in_default.is) _ _
+    (search rules) (search rules)
 
 pub returns : goal.returns
-returns c = plan-lists (money_of c.args.self) (weighed c.args.weights) _ c.get_liquidation_value-total.ensures c.wanted_orders-walk.result (
-    c.wanted_orders-walk.ensures
-    ∙ ap₂ (λ (n : ℕ) (l : List Weight). wanted (money_of c.args.self) c.get_liquidation_value-total.result (counted l n)) c.count.ensures c.rows.ensures) _ c.plan_fault-fault.ensures _
-    c.none-none.ensures c.if-fault-ne0.false (c.wanted_orders-walk.type_inv.1.1.0.1.1.0.1.0.1) _ _ c.side_onto-sales.ensures c.side_onto.ensures
+returns c =
+    plan-lists (money_of c.args.self) (weighed c.args.weights) _ c.get_liquidation_value-total.ensures c.if-total.false (listed_in c.wanted_orders.result)
+    (counted (money_of c.args.self) _ c.args.weights _ _ _ c.rows-rows.ensures c.count.ensures c.min-count.ensures (search rules) _ c.wanted_orders.ensures) (listed c.in-Some.list) (ap listed_in c.in-Some.is) _
+    c.sells_first.ensures

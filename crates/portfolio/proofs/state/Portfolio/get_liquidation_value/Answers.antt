@@ -1,16 +1,10 @@
--- `get_liquidation_value` meets its contract: adding the net sales of the symbols that are left gives the whole sum. Assumes nothing.
-use mathlib.Core.Path.{refl, ap, sym, ◌∙◌}
-use Rattle.costs.specs.Kept.{costs_of}
-use Rattle.portfolio.specs.State.{added_sale}
-use Rattle.portfolio.proofs.Symbols.{fold_start, fold-turn, fold_done, value_read, liquidation-fold}
+-- `get_liquidation_value` meets its contract: each value counts as what a sale of it leaves.
+use mathlib.Core.Path.{◌∙◌}
+use Rattle.rules.specs.Values.{sale_budget}
+use Rattle.std.proofs.Common.{rules}
+use Rattle.portfolio.specs.State.{money_of}
+use Rattle.portfolio.proofs.Symbols.{liquidation-cash}
 use Rattle.portfolio.proofs.state.Portfolio.get_liquidation_value.Goals as goal
 
-pub loop-i-init : goal.loop-i-init
-loop-i-init c = fold_start refl
-
-pub loop-i-preserved : goal.loop-i-preserved
-loop-i-preserved c = fold-turn c.loop-i.invariant c.loop-i-test.true _
-    (c.added_sale-sum.ensures ∙ ap (added_sale (costs_of c.args.self.costs) c.loop-i.sum) (c.value_at-a.ensures ∙ sym (value_read c.args.self.latest c.args.self.funds.holding c.loop-i.i c.loop-i-test.true)))
-
 pub returns : goal.returns
-returns c = fold_done c.loop-i.invariant c.loop-i-test.false ∙ liquidation-fold c.args.self
+returns c = c.cash_with.ensures (sale_budget (money_of c.args.self)) (λ x y p. search rules) ∙ liquidation-cash (money_of c.args.self)

@@ -1,2 +1,0 @@
--- What the events of moves of cash tell.
-pub mod Telling

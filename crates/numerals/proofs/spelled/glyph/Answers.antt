@@ -1,9 +1,0 @@
--- `spelled::glyph` meets its contract. Assumes nothing.
-use borrow.Author.Tests.{lt-ltb, le-ltb}
-use Rattle.numerals.proofs.spelled.glyph.Goals as goal
-
-pub returns-then-d-lt10 : goal.returns-then-d-lt10
-returns-then-d-lt10 c = rw (lt-ltb c.args.d 10 c.if-d-lt10.true)
-
-pub returns : goal.returns
-returns c = rw (le-ltb c.args.d 10 c.if-d-lt10.false)

@@ -1,9 +1,0 @@
--- `answers::left` counts no more bytes than it has passed
-use Rattle.std.proofs.Common.{◌-◌, ◌≤◌, length}
-use Rattle.quote_checks.proofs.answers.left.Given as goal
-
-abbrev pub invariant-loop-i : goal.invariant-loop-i
-invariant-loop-i l = l.n ≤ l.i
-
-abbrev pub decreases-loop-i : goal.decreases-loop-i
-decreases-loop-i l = length l.out - l.i

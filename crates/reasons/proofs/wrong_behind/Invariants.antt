@@ -1,8 +1,0 @@
--- `wrong_behind` is safe and ends. Assumes nothing.
-use Rattle.reasons.proofs.wrong_behind.Given as goal
-
-abbrev pub invariant-loop-turns : goal.invariant-loop-turns
-invariant-loop-turns l = Unit
-
-abbrev pub decreases-loop-turns : goal.decreases-loop-turns
-decreases-loop-turns l = l.turns

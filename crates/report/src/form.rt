@@ -1,0 +1,242 @@
+// The forms in which a scenario's values are written (docs/SCENARIOS.md).
+ghost use Rattle.std.specs.Prelude.{◌≡◌, ◌≢◌, Ok, Err, IfOk, length, min, take};
+
+use account::BrokerCashEvent;
+use broker::read::BrokerState;
+use costs::{BrokerCost, Impact};
+use market::order::{Order, OrderEvent, OrderType};
+use market::quote::Quote;
+use market::trade::{Trade, TradeType};
+use reads::collected::Holding;
+use std::fmt;
+
+// A value, to be written in its form.
+#[derive(Clone, Copy)]
+pub struct Form<T>(pub T);
+
+// What is answered, or the number that was drawn.
+pub fn judged<T: Copy>(fault: u32, answer: T) -> Result<T, u32>
+    ensures ok { fault ≡ 0 → result ≡ Ok answer }
+    ensures err { fault ≢ 0 → result ≡ Err fault }
+{
+    if fault == 0 { Ok(answer) } else { Err(fault) }
+}
+
+// The same of a list's first rows, as many as are said.
+pub fn judged_rows<T: Copy>(fault: u32, rows: &[T], count: usize) -> Form<Result<&[T], u32>>
+    ensures ok { fault ≡ 0 → IfOk result.0 (λ first. first.now ≡ take (min count (length rows.now)) rows.now) }
+    ensures err { fault ≢ 0 → result.0 ≡ Err fault }
+{
+    Form(judged(fault, &rows[..count.min(rows.len())]))
+}
+
+impl fmt::Display for Form<u32> {
+    fn fmt<W: fmt::Write>(&self, f: &mut fmt::Formatter<W>) -> fmt::Result {
+        let x = self.0;
+        write!(f, "{x}")
+    }
+}
+
+impl fmt::Display for Form<u64> {
+    fn fmt<W: fmt::Write>(&self, f: &mut fmt::Formatter<W>) -> fmt::Result {
+        let x = self.0;
+        write!(f, "{x}")
+    }
+}
+
+// A float is the digits of its bits; all NaNs are written alike.
+impl fmt::Display for Form<f64> {
+    fn fmt<W: fmt::Write>(&self, f: &mut fmt::Formatter<W>) -> fmt::Result {
+        let x = self.0;
+        if x.is_nan() {
+            return write!(f, "7ff8000000000000");
+        }
+        let bits = x.to_bits();
+        write!(f, "{bits:016x}")
+    }
+}
+
+// A symbol, and an amount of it.
+impl fmt::Display for Form<(u32, f64)> {
+    fn fmt<W: fmt::Write>(&self, f: &mut fmt::Formatter<W>) -> fmt::Result {
+        let (symbol, amount) = self.0;
+        let amount = Form(amount);
+        write!(f, "{symbol}:{amount}")
+    }
+}
+
+impl fmt::Display for Form<OrderType> {
+    fn fmt<W: fmt::Write>(&self, f: &mut fmt::Formatter<W>) -> fmt::Result {
+        let kind = match self.0 {
+            OrderType::MarketSell => "ms",
+            OrderType::MarketBuy => "mb",
+            OrderType::LimitSell => "ls",
+            OrderType::LimitBuy => "lb",
+            OrderType::StopSell => "ss",
+            OrderType::StopBuy => "sb",
+        };
+        write!(f, "{kind}")
+    }
+}
+
+impl fmt::Display for Form<Order> {
+    fn fmt<W: fmt::Write>(&self, f: &mut fmt::Formatter<W>) -> fmt::Result {
+        let order = self.0;
+        let kind = Form(order.kind);
+        let shares = Form((order.symbol, order.shares));
+        write!(f, "{kind}:{shares}:")?;
+        match order.price {
+            Some(price) => {
+                let price = Form(price);
+                write!(f, "{price}")
+            }
+            None => write!(f, "-"),
+        }
+    }
+}
+
+// The order that was taken, or the number that it drew.
+impl fmt::Display for Form<OrderEvent> {
+    fn fmt<W: fmt::Write>(&self, f: &mut fmt::Formatter<W>) -> fmt::Result {
+        let event = self.0;
+        let order = Form(event.order);
+        if event.fault == 0 {
+            return write!(f, "taken:{order}");
+        }
+        let fault = event.fault;
+        write!(f, "{fault}:{order}")
+    }
+}
+
+impl fmt::Display for Form<Quote> {
+    fn fmt<W: fmt::Write>(&self, f: &mut fmt::Formatter<W>) -> fmt::Result {
+        let quote = self.0;
+        let bid = Form((quote.symbol, quote.bid));
+        let ask = Form(quote.ask);
+        let date = quote.date;
+        write!(f, "{bid}:{ask}:{date}")
+    }
+}
+
+impl fmt::Display for Form<Trade> {
+    fn fmt<W: fmt::Write>(&self, f: &mut fmt::Formatter<W>) -> fmt::Result {
+        let trade = self.0;
+        let side = match trade.typ {
+            TradeType::Buy => "buy",
+            TradeType::Sell => "sell",
+        };
+        let quantity = Form((trade.symbol, trade.quantity));
+        let value = Form(trade.value);
+        let date = trade.date;
+        write!(f, "{side}:{quantity}:{value}:{date}")
+    }
+}
+
+impl fmt::Display for Form<Holding> {
+    fn fmt<W: fmt::Write>(&self, f: &mut fmt::Formatter<W>) -> fmt::Result {
+        let held = Form((self.0.symbol, self.0.quantity));
+        write!(f, "{held}")
+    }
+}
+
+impl fmt::Display for Form<BrokerCost> {
+    fn fmt<W: fmt::Write>(&self, f: &mut fmt::Formatter<W>) -> fmt::Result {
+        let (name, x) = match self.0 {
+            BrokerCost::PerShare(x) => ("per_share", x),
+            BrokerCost::PctOfValue(x) => ("pct_of_value", x),
+            BrokerCost::Flat(x) => ("flat", x),
+        };
+        let x = Form(x);
+        write!(f, "{name}:{x}")
+    }
+}
+
+impl fmt::Display for Form<Impact> {
+    fn fmt<W: fmt::Write>(&self, f: &mut fmt::Formatter<W>) -> fmt::Result {
+        let budget = Form(self.0.budget);
+        let price = Form(self.0.price);
+        write!(f, "{budget} {price}")
+    }
+}
+
+impl fmt::Display for Form<BrokerState> {
+    fn fmt<W: fmt::Write>(&self, f: &mut fmt::Formatter<W>) -> fmt::Result {
+        match self.0 {
+            BrokerState::Ready => write!(f, "Ready"),
+            BrokerState::Failed => write!(f, "Failed"),
+        }
+    }
+}
+
+impl fmt::Display for Form<&str> {
+    fn fmt<W: fmt::Write>(&self, f: &mut fmt::Formatter<W>) -> fmt::Result {
+        let text = self.0;
+        write!(f, "{text}")
+    }
+}
+
+// The amount that was moved, or the number that was drawn and the amount that was asked for.
+impl fmt::Display for Form<BrokerCashEvent> {
+    fn fmt<W: fmt::Write>(&self, f: &mut fmt::Formatter<W>) -> fmt::Result {
+        let (fault, x) = match self.0 {
+            BrokerCashEvent::DepositSuccess(x) => (0, x),
+            BrokerCashEvent::WithdrawSuccess(x) => (0, x),
+            BrokerCashEvent::NotFinite(x) => (2, x),
+            BrokerCashEvent::OperationFailure(x) => (4, x),
+            BrokerCashEvent::WithdrawFailure(x) => (12, x),
+            BrokerCashEvent::Broken(x) => (16, x),
+        };
+        let done = Form(judged(fault, "done"));
+        let x = Form(x);
+        write!(f, "{done} {x}")
+    }
+}
+
+// What may be missing.
+impl<T: Copy> fmt::Display for Form<Option<T>>
+where
+    Form<T>: fmt::Display,
+{
+    fn fmt<W: fmt::Write>(&self, f: &mut fmt::Formatter<W>) -> fmt::Result {
+        match self.0 {
+            Some(x) => {
+                let x = Form(x);
+                write!(f, "{x}")
+            }
+            None => write!(f, "none"),
+        }
+    }
+}
+
+// What was answered, or the number that was drawn.
+impl<T: Copy> fmt::Display for Form<Result<T, u32>>
+where
+    Form<T>: fmt::Display,
+{
+    fn fmt<W: fmt::Write>(&self, f: &mut fmt::Formatter<W>) -> fmt::Result {
+        match self.0 {
+            Ok(x) => {
+                let x = Form(x);
+                write!(f, "{x}")
+            }
+            Err(fault) => write!(f, "refused {fault}"),
+        }
+    }
+}
+
+// How many rows there are, and each of them.
+impl<T: Copy> fmt::Display for Form<&[T]>
+where
+    Form<T>: fmt::Display,
+{
+    fn fmt<W: fmt::Write>(&self, f: &mut fmt::Formatter<W>) -> fmt::Result {
+        let rows = self.0;
+        let count = rows.len();
+        write!(f, "{count}")?;
+        for row in rows {
+            let row = Form(*row);
+            write!(f, " {row}")?;
+        }
+        Ok(())
+    }
+}
