@@ -2,7 +2,7 @@
 
 A definition is named with its file, as `drawn` (market/Faults) or in a table's last column; the name must be defined in
 crates/market/specs/Faults.antt. A theorem is named with its whole file, as `line-form` in `crates/lines/proofs/Forms.antt`. A function is named by its module or type, as `UistBroker::check`; some file of crates/*/src must have
-it; those of DIFFERENCES.md are the Rust's. Exits with 1 where it lists something.
+it; those of DIFFERENCES.md are the Rust's. Pages that tell what names were before are left out. Exits with 1 where it lists something.
 """
 import pathlib
 import re
@@ -14,6 +14,7 @@ BRACKET = re.compile(rf"({NAMES}) \(([a-z_]+/[A-Z]\w*)\)")
 ROW = re.compile(rf"\| ({NAMES}) \| .* \| ((?:[a-z_]+/[A-Z]\w*(?:, )?)+) \|$")
 WHOLE = re.compile(rf"({NAMES}) (?:\(|in )`(crates/[\w/]+\.antt)`")
 FUNCTION = re.compile(r"`(?:\w+::)+(\w+)`")
+BEFORE = {"PORT.md", "DESIGN-PASS.md"}
 
 
 def text_of(*paths):
@@ -59,6 +60,8 @@ def main():
     sources = "\n".join(path.read_text() for path in ROOT.glob("crates/*/src/*.rt"))
     functions, count = set(re.findall(r"\b(?:fn|mod|struct|enum|const) (\w+)", sources)), 0
     for page in sorted((ROOT / "docs").glob("*.md")):
+        if page.name in BEFORE:
+            continue
         for at, line in enumerate(page.read_text().split("\n"), 1):
             for name in [*missing_definitions(line), *missing_theorems(line), *missing_functions(page, line, functions)]:
                 print(f"{page.relative_to(ROOT)}:{at}: {name}")

@@ -15,8 +15,8 @@ ROOT = pathlib.Path(__file__).resolve().parent.parent / "crates"
 ANTT_USE = re.compile(r"^[ \t]*(?P<public>pub )?use (?P<path>[^\s{]+?)(?:\.\{(?P<names>[^}]*)\}| as (?P<whole>\S+))?[ \t]*$", re.M)
 GHOST_USE = re.compile(r"^\s*ghost use (?P<path>[^\s{;]+?)(?:\.\{(?P<names>[^}]*)\}| as (?P<whole>[^\s;]+))?;", re.M)
 RUST_USE = re.compile(r"^\s*(?P<public>pub(?:\(crate\))? )?use (?P<path>[\w:]+?)(?:::\{(?P<names>[^}]*)\})?(?: as (?P<whole>\w+))?;", re.M)
-# Traits of std, which are used by their methods.
-TRAITS = ("Read", "Write", "BufRead")
+# Traits of std and of crate market, which are used by their methods.
+TRAITS = ("Read", "Write", "BufRead", "Row")
 STRING = re.compile(r'"(?:[^"\\\n]|\\.)*"')
 
 
