@@ -36,7 +36,8 @@ pub struct Timed<A> {
     pub micros: u64,
 }
 
-// The rows of a line's tables and weights, and the length of the lent list for events or orders.
+// The rows of a line's tables and weights, and the length of the lent list for events or orders. A
+// line's lists are read into arrays of fixed size, by value, so each count says how many rows were read.
 #[derive(Clone, Copy)]
 pub struct Lists {
     pub tradable: [Quote; 512],
@@ -48,7 +49,8 @@ pub struct Lists {
     pub room: usize,
 }
 
-// Orders, and the length of the lent list for their events.
+// Orders, and the length of the lent list for their events. They are read into an array of fixed size,
+// by value, so the count says how many were read.
 #[derive(Clone, Copy)]
 pub struct Orders {
     pub list: [Order; 1024],

@@ -11,7 +11,8 @@ use market::trade::Trade;
 use portfolio::booking;
 
 // What a check comes to: the new state, the trades in the first `count` places, the log's row where
-// the first of them goes, how many sells it queued, and the number drawn, or 0.
+// the first of them goes, how many sells it queued, and the number drawn, or 0. The trades stand in
+// fixed memory.
 #[derive(Clone, Copy)]
 pub struct Checked {
     pub broker: UistBroker,
@@ -66,7 +67,7 @@ impl UistBroker {
         if fault == 0 {
             let portfolio = &mut self.portfolio;
             portfolio.latest = booking::merge(portfolio.latest, fetched.table());
-            portfolio.funds = booking::settle(portfolio.funds, trades, x.count);
+            portfolio.funds = booking::settle(portfolio.funds, &trades[..x.count.min(1024)]);
             self.exchange = x.exchange;
             queued = self.rebalance_cash();
         }

@@ -16,7 +16,7 @@ impl UistBroker {
         requires { SendsFit self.old.exchange.counts }
         ensures { Liquidates self.old amount self.new result }
     {
-        match liquidate::sales_for(self.portfolio, amount) {
+        match liquidate::sales_for(&self.portfolio, amount) {
             Some(sales) => Some(self.queue_all(sales.orders())),
             None => {
                 let moved = account::debited(self.portfolio.funds.cash, amount);

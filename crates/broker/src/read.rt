@@ -118,8 +118,7 @@ impl UistBroker {
         ensures { ReadsAmount (holding_of self symbol) (symbol_fault self symbol) result }
     {
         let holding = self.portfolio.funds.holding_of(symbol);
-        let held = if holding == 0.0 { None } else { Some(holding) };
-        self.amount_read(symbol, held)
+        self.amount_read(symbol, value::unless_zero(holding))
     }
 
     // The pending quantity of a symbol.

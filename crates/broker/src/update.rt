@@ -21,7 +21,7 @@ pub struct Lengths {
 
 // What an update comes to: the new state; the trades in the first `count` places, and the log's row
 // where the first of them goes; the events in the first `sent` places; the total value; and the
-// number drawn, or 0. With 13 or 18 the check stands.
+// number drawn, or 0. With 13 or 18 the check stands. Trades and events stand in fixed memory.
 #[derive(Clone, Copy)]
 pub struct Updated {
     pub broker: UistBroker,
@@ -86,7 +86,7 @@ impl UistBroker {
             };
         }
         let portfolio = &checked.broker.portfolio;
-        let plan = portfolio.diff_against_target_weights(weights);
+        let plan = portfolio.diff_against_target_weights(&weights);
         let total = unless_drawn(plan.fault, portfolio.get_total_value(), 0.0);
         let orders = plan.list.orders();
         let events = checked.broker.send_all(orders);

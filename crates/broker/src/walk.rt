@@ -7,7 +7,8 @@ use market::fault;
 use market::order::Order;
 use market::weight::Weights;
 
-// What the walk comes to: its orders in the first `count` places, and the number drawn, or 0.
+// What the walk comes to: its orders in the first `count` places, in fixed memory, and the number
+// drawn, or 0.
 #[derive(Clone, Copy)]
 pub struct Walked {
     pub orders: [Order; 256],
@@ -22,7 +23,7 @@ impl UistBroker {
         ensures { Walks self weights rows room result }
     {
         let fault = fault::first(self.lender_fault(rows, room), weights.fault());
-        let plan = self.portfolio.diff_against_target_weights(weights);
+        let plan = self.portfolio.diff_against_target_weights(&weights);
         let orders = plan.list.orders;
         Walked {
             orders,

@@ -3,11 +3,12 @@
 use Rattle.std.specs.Prelude.{ℕ, zero, suc, min, Bool, true, false, ◌&&◌, cond, leb, length, get_or, drop, replicate}
 use Rattle.std.specs.Bool.{beq}
 use mathlib.Core.List.{List, [], ◌∷◌, map, foldl}
-use Rattle.std.specs.Prelude.{Option, None, Some, unwrap_or}
+use Rattle.std.specs.Prelude.{Option, None, Some, is_some, unwrap_or}
 use Rattle.lists.specs.Lists.{over}
 use Rattle.market.specs.Orders.{zero64, blank_order}
 use Rattle.market.specs.Quotes.{blank_quote}
 use Rattle.market.specs.VendorQuotes.{blank_vendor}
+use Rattle.market.specs.Weights.{blank_weight}
 use Rattle.market.specs.declared.order.Order.{Order}
 use Rattle.market.specs.declared.quote.Quote.{Quote}
 use Rattle.market.specs.declared.vendor_quote.VendorQuote.{VendorQuote}
@@ -66,11 +67,6 @@ unfoldable pub behind_slash : Words → Words
 behind_slash [] = []
 behind_slash (w ∷ ws) = cond (is_slash w) ws (behind_slash ws)
 
--- is there a value?
-abbrev pub is_some : {A : Type 0} → Option A → Bool
-is_some None = false
-is_some (Some a) = true
-
 -- is the word a row of this kind?
 unfoldable pub is_row : RowKind → List ℕ → Bool
 is_row Cost w = is_some (cost_of w)
@@ -106,9 +102,6 @@ spanned line (Some s) = Some (record { words = words_in line s; behind = words_o
 spanned line None = None
 
 -- ---- rows read off words
-
-abbrev pub blank_weight : Weight
-blank_weight = record { symbol = 0; weight = zero64 }
 
 abbrev pub blank_cost : BrokerCost
 blank_cost = Flat zero64

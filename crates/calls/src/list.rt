@@ -6,8 +6,9 @@ ghost use Rattle.words.specs.Words.{words_of};
 ghost use Rattle.market.specs.Orders.{blank_order};
 ghost use Rattle.market.specs.Quotes.{blank_quote};
 ghost use Rattle.market.specs.VendorQuotes.{blank_vendor};
+ghost use Rattle.market.specs.Weights.{blank_weight};
 ghost use Rattle.rows.specs.Rows.{order_of, quote_of, vendor_of, weight_of};
-ghost use Rattle.calls.specs.Lists.{is_slash, is_row, list_of, spanned, blank_weight, cost_or_blank, read_rows, read_orders, read_quotes, read_vendors, read_weights, read_costs};
+ghost use Rattle.calls.specs.Lists.{is_slash, is_row, list_of, spanned, cost_or_blank, read_rows, read_orders, read_quotes, read_vendors, read_weights, read_costs};
 
 use costs::{BrokerCost, TradeCosts};
 use market::order::Order;
@@ -87,10 +88,7 @@ impl WordRow for Weight {
     }
 
     fn blank() -> Weight {
-        Weight {
-            symbol: 0,
-            weight: 0.0,
-        }
+        Weight::blank()
     }
 }
 
@@ -133,6 +131,7 @@ pub fn span_at(line: &[u8], at: usize, kind: RowKind, most: usize, before: bool)
 {
     let mut i = at;
     let mut count: usize = 0;
+    // No index ends it: the word that is read does, as a `/` or as the empty one of the line's end.
     loop {
         let (w, next) = word::first_at(line, i);
         let slash = is_slash(w);

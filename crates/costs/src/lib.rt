@@ -65,7 +65,8 @@ impl BrokerCost {
     }
 }
 
-// A broker's costs, in order: the first `count` of the list. The list has 16 places, so a count above 16 reads as 16.
+// A broker's costs, in order: the first `count` of the list, which is fixed memory of 16 places, so
+// that a count above 16 reads as 16.
 #[derive(Clone, Copy)]
 pub struct TradeCosts {
     pub list: [BrokerCost; 16],

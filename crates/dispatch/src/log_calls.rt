@@ -1,6 +1,5 @@
-// The calls that the log is lent to. Each is answered, and says how many microseconds of processor
-// time it took.
-use crate::{answered, line_lists};
+// The calls that the log is lent to.
+use crate::Job;
 use arrays::clock;
 use broker::state::UistBroker;
 use calls::call::Call;
@@ -21,104 +20,67 @@ pub fn needs_log(c: &Call) -> bool {
     )
 }
 
-fn build(
-    rt: &impl CpuClock,
-    out: &mut impl Write,
-    b: &mut UistBroker,
-    line: &[u8],
-    c: &Call,
-    log: &[Trade],
-) -> io::Result<u64> {
-    let lists = line_lists::lists(line, c);
-    let costs = line_lists::costs(line, c);
-    let from = clock::now(rt);
-    let built = arrays::build_on(costs, c.lot, &lists, log);
-    let micros = answered(rt, out, from, &Form(judged(built.fault, "built")))?;
-    *b = built.broker;
-    Ok(micros)
-}
+impl<R: CpuClock, W: Write> Job<'_, R, W> {
+    fn build(&mut self, b: &mut UistBroker, log: &[Trade]) -> io::Result<u64> {
+        let lists = self.lists();
+        let costs = self.costs();
+        let from = clock::now(self.rt);
+        let built = arrays::build_on(costs, self.call.lot, &lists, log);
+        let micros = self.answer(from, &Form(judged(built.fault, "built")))?;
+        *b = built.broker;
+        Ok(micros)
+    }
 
-fn check(
-    rt: &impl CpuClock,
-    out: &mut impl Write,
-    b: &mut UistBroker,
-    line: &[u8],
-    c: &Call,
-    log: &mut [Trade],
-) -> io::Result<u64> {
-    let lists = line_lists::lists(line, c);
-    let timed = arrays::check_on(rt, *b, &lists, log);
-    let x = timed.answer;
-    *b = x.broker;
-    let checked = Checked {
-        traded: x.traded,
-        queued: x.queued,
-    };
-    let answer = Form(judged(x.fault, checked));
-    writeln!(out, " {answer}")?;
-    Ok(timed.micros)
-}
+    fn check(&mut self, b: &mut UistBroker, log: &mut [Trade]) -> io::Result<u64> {
+        let lists = self.lists();
+        let timed = arrays::check_on(self.rt, *b, &lists, log);
+        let x = timed.answer;
+        *b = x.broker;
+        let checked = Checked {
+            traded: x.traded,
+            queued: x.queued,
+        };
+        let answer = Form(judged(x.fault, checked));
+        writeln!(self.out, " {answer}")?;
+        Ok(timed.micros)
+    }
 
-fn update(
-    rt: &impl CpuClock,
-    out: &mut impl Write,
-    b: &mut UistBroker,
-    line: &[u8],
-    c: &Call,
-    log: &mut [Trade],
-) -> io::Result<u64> {
-    let lists = line_lists::lists(line, c);
-    let timed = arrays::update_on(rt, *b, &lists, log);
-    let x = timed.answer.answer;
-    *b = x.broker;
-    let updated = Updated {
-        total: x.total,
-        events: &timed.answer.list[..x.sent.min(1024)],
-    };
-    let answer = Form(judged(x.fault, updated));
-    writeln!(out, " {answer}")?;
-    Ok(timed.micros)
-}
+    fn update(&mut self, b: &mut UistBroker, log: &mut [Trade]) -> io::Result<u64> {
+        let lists = self.lists();
+        let timed = arrays::update_on(self.rt, *b, &lists, log);
+        let x = timed.answer.answer;
+        *b = x.broker;
+        let updated = Updated {
+            total: x.total,
+            events: &timed.answer.list[..x.sent.min(1024)],
+        };
+        let answer = Form(judged(x.fault, updated));
+        writeln!(self.out, " {answer}")?;
+        Ok(timed.micros)
+    }
 
-fn basis(
-    rt: &impl CpuClock,
-    out: &mut impl Write,
-    b: &UistBroker,
-    c: &Call,
-    log: &[Trade],
-) -> io::Result<u64> {
-    let from = clock::now(rt);
-    let x = uist::cost_basis(*b, log, c.symbol);
-    answered(rt, out, from, &Form(judged(x.fault, x.amount)))
-}
+    fn basis(&mut self, b: &UistBroker, log: &[Trade]) -> io::Result<u64> {
+        let from = clock::now(self.rt);
+        let x = uist::cost_basis(*b, log, self.call.symbol);
+        self.answer(from, &Form(judged(x.fault, x.amount)))
+    }
 
-fn turnover(
-    rt: &impl CpuClock,
-    out: &mut impl Write,
-    b: &UistBroker,
-    log: &[Trade],
-) -> io::Result<u64> {
-    let from = clock::now(rt);
-    let x = uist::turnover(*b, log);
-    answered(rt, out, from, &Form(judged(x.fault, x.value)))
-}
+    fn turnover(&mut self, b: &UistBroker, log: &[Trade]) -> io::Result<u64> {
+        let from = clock::now(self.rt);
+        let x = uist::turnover(*b, log);
+        self.answer(from, &Form(judged(x.fault, x.value)))
+    }
 
-// A call that the log is lent to. Its lists take much of the stack, so they are no part of the frame
-// that the run has.
-#[inline(never)]
-pub fn call(
-    rt: &impl CpuClock,
-    out: &mut impl Write,
-    b: &mut UistBroker,
-    line: &[u8],
-    c: &Call,
-    log: &mut [Trade],
-) -> io::Result<u64> {
-    match c.verb {
-        Verb::New => build(rt, out, b, line, c, log),
-        Verb::Check => check(rt, out, b, line, c, log),
-        Verb::Update => update(rt, out, b, line, c, log),
-        Verb::CostBasis => basis(rt, out, b, c, log),
-        _ => turnover(rt, out, b, log),
+    // A call that the log is lent to. Its lists take much of the stack, so they are no part of the frame
+    // that the run has.
+    #[inline(never)]
+    pub fn on_log(&mut self, b: &mut UistBroker, log: &mut [Trade]) -> io::Result<u64> {
+        match self.call.verb {
+            Verb::New => self.build(b, log),
+            Verb::Check => self.check(b, log),
+            Verb::Update => self.update(b, log),
+            Verb::CostBasis => self.basis(b, log),
+            _ => self.turnover(b, log),
+        }
     }
 }

@@ -11,7 +11,7 @@ use native.Mathlib.Omega.{arith}
 use borrow.Author.Tests.{lt-ltb, le-ltb, ltb-true, ltb-false}
 use lib.Dec.{ltb}
 use lib.ListN.{length, take, drop, set, replicate, length-set, take-append-drop}
-use lib.Seq.{take-suc-set, drop-set-lt, length-take-le, drop-drop, drop-length}
+use lib.Seq.{take-suc-set, drop-set-lt, length-take-le, drop-drop}
 use Rattle.lists.specs.Lists.{over, All}
 use Rattle.market.specs.Faults.{◌draws◌, drawn, unless_drawn, first_drawn}
 use Rattle.market.specs.Quotes.{blank_quote, is_price, row_tests, listing}
@@ -22,7 +22,6 @@ use Rattle.market.proofs.Tables.{quote-laws, row-ascends}
 use Rattle.lines.specs.Lines.{Line, quote_of, capped_quote}
 use Rattle.lines.specs.Reading.{capped_row, lines_of, line_tests, line_symbol, read_fault, rows_in, rows_read, lines_fault, lines_read, read_of}
 use Rattle.market.specs.declared.table.QuoteRows.{QuoteRows}
-use Rattle.lines.proofs.Lines.{no_lines}
 
 -- ---- one line
 
@@ -73,16 +72,16 @@ none-drew least = refl
 abbrev blanks : List Quote
 blanks = replicate 257 blank_quote
 
--- n rows of the lines before the place `at` stand first in the array, and the other lines give what all give
-pub record ReadTo (s : List ℕ) (rows : List Quote) (n least at : ℕ) : Type 0 where
+-- n rows of the lines so far stand first in the array, and the lines that are left give what all give
+pub record ReadTo (s : List ℕ) (rows : List Quote) (n least : ℕ) (left : List (Option Line)) : Type 0 where
   pub long : length rows ≡ 257
   pub few : n ≤ least
   pub most : least ≤ 256
   pub kept : drop n rows ≡ drop n blanks
-  pub read : take n rows ++ rows_in (lines_of (drop at s)) ≡ rows_in (lines_of s)
-  pub drew : drawn (rows_tests line_tests line_symbol least (lines_of (drop at s))) ≡ lines_fault s
+  pub read : take n rows ++ rows_in left ≡ rows_in (lines_of s)
+  pub drew : drawn (rows_tests line_tests line_symbol least left) ≡ lines_fault s
 
-pub starts : (s : List ℕ) (rows : List Quote) → length rows ≡ 257 → rows ≡ blanks → ReadTo s rows 0 0 0
+pub starts : (s : List ℕ) (rows : List Quote) → length rows ≡ 257 → rows ≡ blanks → ReadTo s rows 0 0 (lines_of s)
 starts s rows h e = record { long = h; few = omega arith; most = omega arith; kept = e; read = refl; drew = refl }
 
 -- a number is drawn: no row is given
@@ -93,15 +92,14 @@ refuses s n r is d e =
     ∙ ap (λ (k : ℕ). listing [] k) e
     ∙ ap (λ (l : List Quote). listing l (lines_fault s)) (unless-some (lines_fault s) (rows_in (lines_of s)) [] (λ z. d (e ∙ z)))
 
-module _ {s : List ℕ} {rows : List Quote} {n least at : ℕ} (v : ReadTo s rows n least at) where
+module _ {s : List ℕ} {rows : List Quote} {n least : ℕ} {left : List (Option Line)} (v : ReadTo s rows n least left) where
   -- no line is left
-  pub ends : drop at s ≡ [] → record { rows = rows; count = n; fault = 0 } ≡ lines_read s
+  pub ends : left ≡ [] → record { rows = rows; count = n; fault = 0 } ≡ lines_read s
   unfolding lines_read
   ends e =
-      let left : lines_of (drop at s) ≡ [] = ap lines_of e ∙ no_lines in
-      let zero-drawn : lines_fault s ≡ 0 = sym v.drew ∙ ap (λ (ls : List (Option Line)). drawn (rows_tests line_tests line_symbol least ls)) left ∙ none-drew least in
+      let zero-drawn : lines_fault s ≡ 0 = sym v.drew ∙ ap (λ (ls : List (Option Line)). drawn (rows_tests line_tests line_symbol least ls)) e ∙ none-drew least in
       let all : take n rows ≡ rows_in (lines_of s)
-      = sym (append-nil (take n rows)) ∙ ap (λ (ls : List (Option Line)). take n rows ++ rows_in ls) (sym left) ∙ v.read in
+      = sym (append-nil (take n rows)) ∙ ap (λ (ls : List (Option Line)). take n rows ++ rows_in ls) (sym e) ∙ v.read in
       let size : length (take n rows) ≡ n = length-take-le n rows (omega (arith, v.long, v.few, v.most)) in
       let array : rows ≡ over (take n rows) blanks
       = sym (take-append-drop n rows) ∙ ap (λ (l : List Quote). take n rows ++ l) (v.kept ∙ ap (λ (k : ℕ). drop k blanks) (sym size)) in
@@ -110,10 +108,10 @@ module _ {s : List ℕ} {rows : List Quote} {n least at : ℕ} (v : ReadTo s row
       ∙ ap (λ (l : List Quote). listing l 0) (all ∙ unless-none (lines_fault s) (rows_in (lines_of s)) [] zero-drawn)
       ∙ ap (listing (unless_drawn (lines_fault s) (rows_in (lines_of s)) [])) (sym zero-drawn)
 
-  module _ (o : Option Line) (next : ℕ) (first : lines_of (drop at s) ≡ o ∷ lines_of (drop next s)) where
-    drew-first : first_drawn (drawn (line_tests least o)) (drawn (rows_tests line_tests line_symbol (line_symbol o + 1) (lines_of (drop next s)))) ≡ lines_fault s
+  module _ (o : Option Line) (next : List (Option Line)) (first : left ≡ o ∷ next) where
+    drew-first : first_drawn (drawn (line_tests least o)) (drawn (rows_tests line_tests line_symbol (line_symbol o + 1) next)) ≡ lines_fault s
     drew-first =
-        sym (lines-drew least o (lines_of (drop next s)))
+        sym (lines-drew least o next)
         ∙ ap (λ (ls : List (Option Line)). drawn (rows_tests line_tests line_symbol least ls)) (sym first)
         ∙ v.drew
 
@@ -122,14 +120,11 @@ module _ {s : List ℕ} {rows : List Quote} {n least at : ℕ} (v : ReadTo s row
     stops f e d = e ∙ unless-some _ _ _ (λ z. d (e ∙ z)) ∙ drew-first
 
   -- a line that is none, or whose newline is missing
-  stops-none : (next : ℕ) → lines_of (drop at s) ≡ None ∷ lines_of (drop next s) → 19 ≡ lines_fault s
+  pub stops-none : (next : List (Option Line)) → left ≡ None ∷ next → 19 ≡ lines_fault s
   stops-none next e = stops None next e 19 (sym (malformed-draws least)) (λ z. omega arith)
 
-  pub stops-missing : lines_of (drop at s) ≡ None ∷ [] → 19 ≡ lines_fault s
-  stops-missing e = stops-none (length s) (e ∙ ap (λ (ls : List (Option Line)). None ∷ ls) (sym (ap lines_of (drop-length s) ∙ no_lines)))
-
   -- a line that draws nothing: its row stands behind the others
-  module _ (l : Line) (next : ℕ) (first : lines_of (drop at s) ≡ Some l ∷ lines_of (drop next s)) where
+  module _ (l : Line) (next : List (Option Line)) (first : left ≡ Some l ∷ next) where
     module _ (z : drawn (row_tests least (capped_quote l)) ≡ 0) where
       row-high : (capped_quote l).symbol < 256
       row-high = (row-ascends least (capped_quote l) z).high
@@ -142,7 +137,7 @@ module _ {s : List ℕ} {rows : List Quote} {n least at : ℕ} (v : ReadTo s row
           let q = capped_quote l in
           let low = (row-ascends least q z).low in
           let same = capped-row least l z in
-          let rest = rows_in (lines_of (drop next s)) in
+          let rest = rows_in next in
           let within : n < length rows = omega (arith, v.long, room) in
           record {
             long = length-set rows n q ∙ v.long;
@@ -163,7 +158,7 @@ module _ {s : List ℕ} {rows : List Quote} {n least at : ℕ} (v : ReadTo s row
                 ∙ ap (λ (ls : List (Option Line)). take n rows ++ rows_in ls) (sym first)
                 ∙ v.read;
             drew =
-                ap (λ (r : Quote). drawn (rows_tests line_tests line_symbol (r.symbol + 1) (lines_of (drop next s)))) same
+                ap (λ (r : Quote). drawn (rows_tests line_tests line_symbol (r.symbol + 1) next)) same
                 ∙ unless-none _ _ _ (sym (capped-draws least l) ∙ z)
                 ∙ drew-first (Some l) next first;
           }
@@ -173,8 +168,8 @@ module _ {s : List ℕ} {rows : List Quote} {n least at : ℕ} (v : ReadTo s row
 
 -- ---- by what the reader of a line said
 
--- the row q stands behind the n rows so far, and the reader goes on at `next`
-pub record GoesOn (s : List ℕ) (rows : List Quote) (n : ℕ) (q : Quote) (next : ℕ) : Type 0 where
+-- the row q stands behind the n rows so far, and the reader goes on with the lines `next`
+pub record GoesOn (s : List ℕ) (rows : List Quote) (n : ℕ) (q : Quote) (next : List (Option Line)) : Type 0 where
   pub room : n < 256
   pub high : q.symbol < 256
   pub on : ReadTo s (set rows n q) (n + 1) (q.symbol + 1) next
@@ -187,9 +182,9 @@ said-some : (q : Quote) (o : Option Line) → Some q ≡ capped_row o → (l : L
 said-some q None e = absurd (none-some q (sym e))
 said-some q (Some l) e = (l, refl, same_Some q (capped_quote l) e)
 
-module _ {s : List ℕ} {rows : List Quote} {n least at : ℕ} (v : ReadTo s rows n least at) (o : Option Line) (next : ℕ) (first : lines_of (drop at s) ≡ o ∷ lines_of (drop next s)) where
+module _ {s : List ℕ} {rows : List Quote} {n least : ℕ} {left : List (Option Line)} (v : ReadTo s rows n least left) (o : Option Line) (next : List (Option Line)) (first : left ≡ o ∷ next) where
   abbrev ahead : Option Line → List (Option Line)
-  ahead p = p ∷ lines_of (drop next s)
+  ahead p = p ∷ next
 
   pub nothing_said : None ≡ capped_row o → 19 ≡ lines_fault s
   nothing_said e = stops-none v next (first ∙ ap ahead (said-none o e))

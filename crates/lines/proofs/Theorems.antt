@@ -1,16 +1,18 @@
 -- The theorems of quote lines: a table's text is read back as that table, and what is read has no other text. Assumes nothing.
 use Prim.Native.Nat.{ℕ, zero, suc, ◌+◌, ◌*◌, ◌^◌, ◌≤◌, ◌<◌, min}
-use mathlib.Core.Bool.{true, not}
+use mathlib.Core.Bool.{true, false, not}
 use mathlib.Core.Path.{◌≡◌, refl, ap, ap₂, sym, ◌∙◌}
 use mathlib.Core.List.{List, [], ◌∷◌, ◌++◌, append_assoc}
 use Rattle.std.specs.declared.option.Option.{Option}
 use Rattle.std.specs.declared.option.Option.TheVariants.{None, Some}
 use native.Mathlib.Omega.{arith}
 use borrow.Author.Tests.{ltb-false, le-ltb, not-false}
-use lib.Dec.{T, ltb}
+use lib.Dec.{T, eqb, ltb}
 use lib.Ieee.{Float, nan, inf, fin, binary64, is_nan, of_bits, to_bits}
 use lib.Ieee.Bits.{of_bits-to_bits, to_bits-lt, of_bits-fits, to_bits-of_bits}
 use lib.ListN.{length, length-append}
+use Rattle.std.specs.List.{All as Each}
+use Rattle.std.proofs.lemmas.List.Elements.{All-nil, All-cons}
 use Rattle.lists.specs.Lists.{All}
 use Rattle.market.specs.Faults.{Test, drawn, unless_drawn}
 use Rattle.market.specs.Quotes.{is_price, row_tests, table_tests}
@@ -19,7 +21,7 @@ use Rattle.market.specs.declared.quote.Quote.{Quote}
 use Rattle.market.proofs.Faults.{drawn-append, append-none, none-drawn, unless-none, test-fails}
 use Rattle.market.proofs.Rows.{good-all, good-few}
 use Rattle.market.proofs.Tables.{quote-laws, row-ascends, rows_none}
-use Rattle.words.specs.Words.{split, is_byte, lead}
+use Rattle.words.specs.Words.{split}
 use Rattle.numerals.proofs.Bytes.{Lacks}
 use Rattle.numerals.proofs.Dates.{date-length}
 use Rattle.numerals.proofs.Hexes.{length-hex}
@@ -28,9 +30,9 @@ use Rattle.lines.specs.Claims.{Said, HeldRow, Held, ReadsText, OneText, SameText
 use Rattle.lines.specs.Lines.{Line, newline, line_text, line_for, line_of, text_of, line_in, quote_of}
 use Rattle.lines.specs.Reading.{lines_in, lines_of, line_tests, line_symbol, read_fault, rows_in, rows_read, lines_fault}
 use Rattle.lines.specs.Writing.{write_fault, text_written}
-use Rattle.lines.proofs.Cuts.{lead-at, cut-before, cut-behind, joined, joined-split}
+use Rattle.lines.proofs.Cuts.{joined, joined-split}
 use Rattle.lines.proofs.Forms.{line-lacks, line_read, line-said, line-is}
-use Rattle.lines.proofs.Lines.{no_lines, line_first}
+use Rattle.lines.proofs.Lines.{no_lines, line-cut}
 use Rattle.lines.proofs.Loading.{line-numbered, malformed-draws, none-drew}
 use Rattle.lines.proofs.Putting.{symbol-fits}
 
@@ -193,11 +195,10 @@ text-fits t h e = omega (arith, text-most 0 t h e (omega arith))
 
 -- ---- a table's text is read back
 
--- a text that lacks newlines, with one behind it, is a line
-line-cut : (p r : List ℕ) → Lacks 10 p → lines_of (p ++ 10 ∷ r) ≡ line_in p ∷ lines_of r
-line-cut p r h =
-    line_first (p ++ 10 ∷ r) (lead (is_byte 10 true) (p ++ 10 ∷ r)) refl (omega (arith, lead-at 10 p r h, length-append p (10 ∷ r)))
-    ∙ ap₂ (λ (a b : List ℕ). line_in a ∷ lines_of b) (cut-before 10 p r h) (cut-behind 10 p r h)
+-- a text that lacks newlines has none at any place
+lacks-each : (p : List ℕ) → Lacks 10 p → Each (λ b. eqb b 10 ≡ false) p
+lacks-each [] h = All-nil (λ b. eqb b 10 ≡ false)
+lacks-each (x ∷ p) h = All-cons (λ b. eqb b 10 ≡ false) x p h.0 (lacks-each p h.1)
 
 row-said : (q : Quote) → HeldRow q → Said (line_for q.symbol q)
 row-said q h = record { date = h.date; bid = to_bits-lt binary64 q.bid h.bid; ask = to_bits-lt binary64 q.ask h.ask }
@@ -216,7 +217,7 @@ lines-read [] h = no_lines
 lines-read (q ∷ t) h =
     let l = line_for q.symbol q in
     ap lines_of (append_assoc (line_text l) newline (text_of t))
-    ∙ line-cut (line_text l) (text_of t) (line-lacks l)
+    ∙ line-cut (line_text l) (text_of t) (lacks-each (line_text l) (line-lacks l))
     ∙ ap₂ (λ (o : Option Line) (ls : List (Option Line)). o ∷ ls) (line_read l (row-said q h.0)) (lines-read t h.1)
 
 same_tests : (least : ℕ) (t : List Quote) → Held t → rows_tests line_tests line_symbol least (lines_for t) ≡ table_tests least t

@@ -6,7 +6,6 @@ ghost use Rattle.lines.specs.Reading.{lines_read, read_of};
 use crate::line;
 use market::quote::Quote;
 use market::row::Row;
-use words::word;
 
 // A table that was read, declared by crate `market` and named here as well.
 pub use market::table::QuoteRows;
@@ -29,13 +28,11 @@ fn lines_read(input: &[u8]) -> QuoteRows
     let mut rows = [Quote::blank(); 257];
     let mut n: usize = 0;
     let mut least: u32 = 0;
-    let mut at: usize = 0;
-    while at < input.len() {
-        let end = word::next(input, at, b'\n', true);
-        if end >= input.len() {
+    for part in input.split_inclusive(|b| *b == b'\n') {
+        let Some(text) = part.strip_suffix(b"\n") else {
             return refused(19);
-        }
-        let Some(q) = line::line(&input[at..end]) else {
+        };
+        let Some(q) = line::line(text) else {
             return refused(19);
         };
         let fault = q.fault(least);
@@ -45,7 +42,6 @@ fn lines_read(input: &[u8]) -> QuoteRows
         rows[n] = q;
         n += 1;
         least = q.symbol + 1;
-        at = end + 1;
     }
     QuoteRows {
         rows,

@@ -15,8 +15,8 @@ pub struct Table {
     pub fault: u32,
 }
 
-// The first `count` rows, and the number drawn, or 0. There is a place more than a table
-// has rows.
+// The first `count` rows, in fixed memory, and the number drawn, or 0. There is a place more than a
+// table has rows.
 #[derive(Clone, Copy)]
 pub struct QuoteRows {
     pub rows: [Quote; 257],

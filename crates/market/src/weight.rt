@@ -1,7 +1,7 @@
 // Weights of a model portfolio, and the numbers that rows of them draw.
 ghost use Rattle.std.specs.Prelude.{◌≡◌, ◌≤◌, length, replicate};
 ghost use Rattle.lists.specs.Lists.{over};
-ghost use Rattle.market.specs.Weights.{blank_weight, weights_of};
+ghost use Rattle.market.specs.Weights.{blank_weight, weights_of, weighed};
 ghost use Rattle.std.specs.Float.Ieee.Scale.{finite};
 
 use crate::row::{Row, RowsRead};
@@ -13,7 +13,8 @@ pub struct Weight {
 }
 
 // Weights by ascending symbol: the first `count` rows; `fault` is the number that the first bad row
-// drew, or 0. Its fields are private, so only reading rows makes one.
+// drew, or 0. Its fields are private, so only reading rows makes one. Like a table they stand in fixed
+// memory.
 #[derive(Clone, Copy)]
 pub struct Weights {
     rows: [Weight; 256],
@@ -47,7 +48,8 @@ impl Weight {
     }
 }
 
-// These rows, in the first places of an array.
+// These rows, in the first places of an array. They are copied one by one: of a copy into a part of a
+// local array no tactic finds what it leaves.
 fn kept(rows: &[Weight]) -> [Weight; 256]
     requires { length rows.now ≤ 256 }
     ensures { result ≡ over rows.now (replicate 256 blank_weight) }
@@ -73,17 +75,13 @@ impl Weights {
         }
     }
 
-    // The rows that were read; those from `count` on do not count.
-    pub fn rows(self) -> [Weight; 256]
-        ensures { result ≡ self.rows }
+    // The rows that were read.
+    pub fn rows(&self) -> &[Weight]
+        ensures rows { result.now ≡ weighed self.now }
+        ensures few { length result.now ≤ 256 }
     {
-        self.rows
-    }
-
-    pub fn count(self) -> usize
-        ensures { result ≡ self.count }
-    {
-        self.count
+        let count = self.count.min(256);
+        &self.rows[..count]
     }
 
     // The number that the rows drew, or 0.

@@ -1,5 +1,5 @@
 -- The walk over weights, and the plan that it comes to. Assumes nothing.
-use Prim.Native.Nat.{ℕ, suc, min, ◌+◌, ◌≤◌, ◌<◌}
+use Prim.Native.Nat.{ℕ, suc, ◌+◌, ◌≤◌, ◌<◌}
 use mathlib.Core.Path.{◌≡◌, refl, ap, ap₂, sym, ◌∙◌}
 use mathlib.Core.Bool.{Bool, true, false}
 use mathlib.Core.List.{List, [], ◌∷◌, ◌++◌, append_assoc, append-nil}
@@ -8,14 +8,11 @@ use Rattle.std.specs.declared.option.Option.TheVariants.{None, Some}
 use native.Mathlib.Omega.{arith}
 use native.Mathlib.Numerals.{add-one}
 use lib.Ieee.{Float}
-use lib.ListN.{length, take, drop, get_or, drop_of_length-le}
+use lib.ListN.{length, drop, get_or, drop_of_length-le}
 use lib.Seq.{drop-cons}
-use Rattle.std.proofs.lemmas.List.{take_min}
 use Rattle.market.specs.Faults.{drawn}
 use Rattle.market.specs.declared.order.Order.{Order}
-use Rattle.market.specs.Weights.{weighed}
 use Rattle.market.specs.declared.weight.Weight.{Weight}
-use Rattle.market.specs.declared.weight.Weights.{Weights}
 use Rattle.market.proofs.Weights.{no_weight}
 use Rattle.orders.specs.Orders.{sells_first}
 use Rattle.costs.specs.Kept.{costs_of}
@@ -142,14 +139,6 @@ module _ (p : Portfolio) (v : Float) (w : Weight) (x : Float) where
   pub row-read : (q : Option Quote) → x ≡ or_zero (value_of (money_of p) w.symbol) → q ≡ row_at p.latest w.symbol →
       orders_at p.lot (costs_of p.costs) w.symbol (minus (times v w.weight) x) q ≡ orders_of (money_of p) v w
   row-read q e f = ap₂ (λ (y : Float) (r : Option Quote). orders_at p.lot (costs_of p.costs) w.symbol (minus (times v w.weight) y) r) e f
-
--- ---- the rows of weights, as the code counts them
-
-pub counted : (m : Money) (v : Float) (w : Weights) (rows : List Weight) (n k : ℕ) → rows ≡ w.rows → n ≡ w.count → k ≡ min n 256 → length w.rows ≡ 256 →
-    (o : Option (List Order)) → o ≡ wanted m v (take k rows) → o ≡ wanted m v (weighed w)
-counted m v w rows n k er en ek h o e =
-    e ∙ ap₂ (λ (i : ℕ) (l : List Weight). wanted m v (take i l)) (ek ∙ ap₂ min en (sym h)) er
-    ∙ ap (wanted m v) (take_min w.count w.rows)
 
 -- ---- the plan
 

@@ -1,11 +1,11 @@
 // Booking: what trades make of cash, holdings and pending quantities, and fetched rows of the latest
 // quotes.
-ghost use Rattle.std.specs.Prelude.{◌≡◌, take};
+ghost use Rattle.std.specs.Prelude.{◌≡◌};
 ghost use mathlib.Core.List.{foldl};
-ghost use Rattle.rules.specs.Money.{unless_zero};
 ghost use Rattle.portfolio.specs.Booking.{settle_of, settle_one, merge_of};
 
 use crate::state::Funds;
+use crate::value::unless_zero;
 use market::table::Table;
 use market::trade::{Trade, TradeType};
 
@@ -15,13 +15,6 @@ struct Settled {
     cash: f64,
     holding: f64,
     pending: Option<f64>,
-}
-
-// A quantity that is removed where it is zero.
-fn unless_zero(x: f64) -> Option<f64>
-    ensures { result ≡ unless_zero x }
-{
-    if x == 0.0 { None } else { Some(x) }
 }
 
 // What a trade makes of them. A quantity that is absent reads as 0.0; zero is removed.
@@ -53,7 +46,7 @@ fn settle_one(t: Trade, x: Settled) -> Settled
 
 // Books the trades, in order.
 #[tactic(auto, unfolding(crate::specs::Booking::settle_one))]
-fn booked(funds: Funds, trades: &[Trade]) -> Funds
+pub fn settle(funds: Funds, trades: &[Trade]) -> Funds
     ensures { result ≡ foldl settle_one funds trades.now }
 {
     let mut f = funds;
@@ -72,14 +65,6 @@ fn booked(funds: Funds, trades: &[Trade]) -> Funds
         f.pending[at] = x.pending;
     }
     f
-}
-
-// Books the first `count` trades, in order.
-pub fn settle(funds: Funds, trades: [Trade; 1024], count: usize) -> Funds
-    ensures { result ≡ foldl settle_one funds (take count trades) }
-{
-    let count = count.min(1024);
-    booked(funds, &trades[..count])
 }
 
 // Each fetched row is its symbol's latest quote.

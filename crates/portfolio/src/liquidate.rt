@@ -73,13 +73,13 @@ fn sell_positions(p: &Portfolio, amount: f64) -> Sold
 // The orders that an amount is met with; none where it exceeds the liquidation value, or where a
 // rest is left.
 #[tactic(auto, unfolding(rules::specs::Liquidation::sales_for))]
-pub fn sales_for(p: Portfolio, amount: f64) -> Option<OrderList>
-    ensures { listed_in result ≡ sales_for (money_of p) amount }
+pub fn sales_for(p: &Portfolio, amount: f64) -> Option<OrderList>
+    ensures { listed_in result ≡ sales_for (money_of p.now) amount }
 {
     if amount > p.get_liquidation_value() {
         return None;
     }
-    let sold = sell_positions(&p, amount);
+    let sold = sell_positions(p, amount);
     if sold.rest == 0.0 {
         Some(sold.list)
     } else {

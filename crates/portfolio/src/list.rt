@@ -4,7 +4,7 @@ ghost use Rattle.portfolio.specs.Lists.{no_orders, with_order, listed};
 
 use market::order::Order;
 
-// Orders that a liquidation or the weights list: the first `count`.
+// Orders that a liquidation or the weights list: the first `count`, in fixed memory.
 #[derive(Clone, Copy)]
 pub struct OrderList {
     pub orders: [Order; 256],

@@ -9,15 +9,19 @@ use crate::state::Portfolio;
 use costs::TradeCosts;
 use market::quote::Quote;
 
+// A quantity that is removed where it is zero.
+pub fn unless_zero(x: f64) -> Option<f64>
+    ensures { result ≡ unless_zero x }
+{
+    if x == 0.0 { None } else { Some(x) }
+}
+
 // A position's value at the latest row of its symbol.
 pub fn value_at(row: Option<Quote>, holding: f64) -> Option<f64>
     ensures { result ≡ value_at row (unless_zero holding) }
 {
     let q = row?;
-    if holding == 0.0 {
-        return None;
-    }
-    Some(q.bid * holding)
+    Some(q.bid * unless_zero(holding)?)
 }
 
 // What a sale of the amount leaves after costs.
@@ -50,14 +54,14 @@ impl Portfolio {
         sum
     }
 
-    pub fn get_total_value(self) -> f64
-        ensures { result ≡ total_value (money_of self) }
+    pub fn get_total_value(&self) -> f64
+        ensures { result ≡ total_value (money_of self.now) }
     {
         self.cash_with(|x| x)
     }
 
-    pub fn get_liquidation_value(self) -> f64
-        ensures { result ≡ liquidation_value (money_of self) }
+    pub fn get_liquidation_value(&self) -> f64
+        ensures { result ≡ liquidation_value (money_of self.now) }
     {
         self.cash_with(|x| costs::net_of_costs(self.costs, x, x, false).budget)
     }

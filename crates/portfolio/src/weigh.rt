@@ -131,16 +131,14 @@ impl Plan {
 
 impl Portfolio {
     // The walk. Where a number is drawn no order is listed, also none of the rows before.
-    pub fn diff_against_target_weights(self, weights: Weights) -> Plan
-        ensures { plan_in result ≡ plan_of (money_of self) (weighed weights) }
+    pub fn diff_against_target_weights(&self, weights: &Weights) -> Plan
+        ensures { plan_in result ≡ plan_of (money_of self.now) (weighed weights.now) }
     {
         let total = self.get_liquidation_value();
         if total == 0.0 {
             return Plan::refused(13);
         }
-        let rows = weights.rows();
-        let count = weights.count().min(256);
-        let Some(list) = wanted_orders(&self, total, &rows[..count]) else {
+        let Some(list) = wanted_orders(self, total, weights.rows()) else {
             return Plan::refused(18);
         };
         Plan {

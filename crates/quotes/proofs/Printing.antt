@@ -1,13 +1,11 @@
 -- Bytes put in the first places of a buffer l, and what is answered of them. Assumes nothing.
 use Prim.Native.Nat.{ℕ, zero, suc, ◌+◌, min, ◌≤◌, ◌<◌}
-use native.Mathlib.Numerals.{add-one}
 use native.Mathlib.Omega.{arith}
-use mathlib.Core.Path.{◌≡◌, refl, sym, ◌∙◌, ap, ap₂}
+use mathlib.Core.Path.{◌≡◌, sym, ◌∙◌, ap, ap₂}
 use mathlib.Core.List.{List, [], ◌∷◌, ◌++◌}
-use lib.ListN.{length, take, drop, set, get_or, replicate, length-append, length-take}
-use lib.Seq.{length-take-le, take-suc}
+use lib.ListN.{length, take, drop, set, replicate, length-append, length-take}
 use Rattle.lists.specs.Lists.{over}
-use Rattle.lists.proofs.Over.{length_over, take-over, over-more}
+use Rattle.lists.proofs.Over.{take-over, over-more}
 use Rattle.market.specs.Faults.{unless_drawn}
 use Rattle.market.proofs.Faults.{unless-none}
 use Rattle.market.specs.Quotes.{blank_quote}

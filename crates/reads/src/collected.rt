@@ -1,7 +1,6 @@
 // The rows of a broker's symbols: the row of each symbol at its place, where the symbol has one.
 ghost use Rattle.std.specs.Prelude.{◌≡◌, length, ◌≤◌, ◌<◌};
 ghost use Rattle.lists.specs.Lists.{gather, holds, over};
-ghost use Rattle.rules.specs.Money.{unless_zero};
 ghost use Rattle.reads.specs.Rows.{holding_of};
 
 // How much of a symbol is held, or pending.
@@ -21,17 +20,6 @@ impl Holding {
             symbol: symbol as u32,
             quantity,
         }
-    }
-}
-
-// What is held: a holding that is not 0.0.
-pub(crate) fn held(quantity: f64) -> Option<f64>
-    ensures { result ≡ unless_zero quantity }
-{
-    if quantity == 0.0 {
-        None
-    } else {
-        Some(quantity)
     }
 }
 

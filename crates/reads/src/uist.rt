@@ -7,11 +7,12 @@ ghost use Rattle.reads.specs.Rows.{position_rows, holding_rows, pending_rows, qu
 ghost use Rattle.reads.specs.Answers.{read_of, AnswersList};
 
 use crate::collected;
-use crate::collected::{Holding, held};
+use crate::collected::Holding;
 use broker::state::UistBroker;
 use costs::BrokerCost;
 use market::fault;
 use market::quote::Quote;
+use portfolio::value::unless_zero;
 use std::array;
 
 // How many rows were written, and the number drawn, or 0.
@@ -26,7 +27,7 @@ pub fn get_positions(broker: UistBroker, positions: &mut [u32]) -> ListRead
     ensures { AnswersList broker (position_rows (money_of broker.portfolio)) positions.old result positions.new }
 {
     let holding = &broker.portfolio.funds.holding;
-    let rows: [Option<u32>; 256] = array::from_fn(|s| held(holding[s]).map(|_| s as u32));
+    let rows: [Option<u32>; 256] = array::from_fn(|s| unless_zero(holding[s]).map(|_| s as u32));
     answer(broker, &rows, positions)
 }
 
@@ -36,7 +37,7 @@ pub fn get_holdings(broker: UistBroker, holdings: &mut [Holding]) -> ListRead
 {
     let holding = &broker.portfolio.funds.holding;
     let rows: [Option<Holding>; 256] = array::from_fn(|s| {
-        let quantity = held(holding[s])?;
+        let quantity = unless_zero(holding[s])?;
         Some(Holding::of(s, quantity))
     });
     answer(broker, &rows, holdings)

@@ -5,6 +5,7 @@
 use std::env::FillError;
 use std::io;
 use std::rt::{Env, Files};
+use text::failed;
 use text::failed::Failed;
 
 // How large the log is that a run has.
@@ -19,12 +20,6 @@ fn print_help(rt: &impl Print) -> io::Result<()> {
     println!(rt; "writes what each call answers and what the broker holds after it.")?;
     println!(rt; "The log has at most 65536 rows, or with `large` 1048576.")?;
     println!(rt; "docs/SCENARIOS.md has the form.")
-}
-
-fn tell(rt: &impl Eprint, ended: Result<(), Failed>) {
-    if let Err(why) = ended {
-        let _ = eprintln!(rt; "rehearse: {why}");
-    }
 }
 
 // The word need not be text, so it is written as it is.
@@ -53,7 +48,7 @@ fn asked_by(
     match word {
         b"large" => is_room(rt, 40000).then_some(Log::Large),
         b"--help" => {
-            tell(rt, print_help(rt).map_err(Failed::Output));
+            failed::tell(rt, print_help(rt).map_err(Failed::Output));
             None
         }
         _ => {
@@ -92,8 +87,8 @@ fn asked(rt: &(impl Files + Alloc + Env + Print + Eprint), err: &impl Print) -> 
 // The stack's limit is asked for before a run takes its part.
 fn main(rt: HostRuntime) {
     match asked(&rt, &rt.stderr()) {
-        Some(Log::Small) => tell(&rt, scenario::run::with_small_log(&rt)),
-        Some(Log::Large) => tell(&rt, scenario::run::with_large_log(&rt)),
+        Some(Log::Small) => scenario::run::with_small_log(&rt),
+        Some(Log::Large) => scenario::run::with_large_log(&rt),
         None => {}
     }
 }

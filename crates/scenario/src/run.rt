@@ -8,7 +8,7 @@ use broker::state::UistBroker;
 use calls::call::Call;
 use calls::verb::Verb;
 use costs::TradeCosts;
-use dispatch::{list_calls, log_calls, plain_calls};
+use dispatch::{Job, list_calls, log_calls, plain_calls};
 use market::table::ReadTable;
 use market::trade::Trade;
 use report::answer::Reply;
@@ -16,6 +16,7 @@ use report::form::Form;
 use std::io;
 use std::io::{BufWriter, Read, Write};
 use std::time::CpuClock;
+use text::failed;
 use text::failed::Failed;
 use text::input::{Input, Line};
 
@@ -51,7 +52,9 @@ impl<R: CpuClock, W: Write> Session<'_, R, W> {
     }
 
     // A liquidation, an insertion, or a deletion. It is answered first, so that its time is without the
-    // copy of what it leaves.
+    // copy of what it leaves. The brokers that it leaves take much of the stack, so they are no part of
+    // the frame that the other lines have.
+    #[inline(never)]
     fn change(&mut self, from: Option<u64>, b: &mut UistBroker, c: &Call) -> io::Result<()> {
         match c.verb {
             Verb::Liquidate => {
@@ -73,6 +76,16 @@ impl<R: CpuClock, W: Write> Session<'_, R, W> {
         Ok(())
     }
 
+    // The call of a line, answered where the run answers.
+    fn job<'a>(&'a mut self, line: &'a [u8], call: &'a Call) -> Job<'a, R, W> {
+        Job {
+            rt: self.rt,
+            out: &mut self.out,
+            line,
+            call,
+        }
+    }
+
     // A line whose call the log is lent to.
     fn log_call(
         &mut self,
@@ -85,17 +98,14 @@ impl<R: CpuClock, W: Write> Session<'_, R, W> {
             self.view.renew(c.log as usize);
         }
         let rows = self.view.rows.min(log.len());
-        let micros = log_calls::call(self.rt, &mut self.out, b, line, c, &mut log[..rows])?;
+        let micros = self.job(line, c).on_log(b, &mut log[..rows])?;
         self.view.count(micros);
         Ok(())
     }
 
     // A line whose call is answered by a list, and needs no log.
     fn list_call(&mut self, b: &mut UistBroker, line: &[u8], c: &Call) -> io::Result<()> {
-        let micros = match c.verb {
-            Verb::SendList => list_calls::send_list(self.rt, &mut self.out, b, line, c)?,
-            _ => list_calls::list(self.rt, &mut self.out, b, line, c)?,
-        };
+        let micros = self.job(line, c).on_lists(b)?;
         self.view.count(micros);
         Ok(())
     }
@@ -212,15 +222,11 @@ fn run<const ROWS: usize>(
 }
 
 // A run whose log has at most 65,536 rows.
-pub fn with_small_log(
-    rt: &(impl AllocGlobal + io::Input + Print + CpuClock),
-) -> Result<(), Failed> {
-    run::<65536>(rt)
+pub fn with_small_log(rt: &(impl AllocGlobal + io::Input + Print + Eprint + CpuClock)) {
+    failed::tell(rt, run::<65536>(rt));
 }
 
 // A run whose log has at most 1,048,576 rows.
-pub fn with_large_log(
-    rt: &(impl AllocGlobal + io::Input + Print + CpuClock),
-) -> Result<(), Failed> {
-    run::<1048576>(rt)
+pub fn with_large_log(rt: &(impl AllocGlobal + io::Input + Print + Eprint + CpuClock)) {
+    failed::tell(rt, run::<1048576>(rt));
 }

@@ -4,7 +4,6 @@
 
 ghost use Rattle.std.specs.Prelude.{◌≡◌};
 ghost use Rattle.std.specs.Prelude.{Some};
-ghost use Rattle.market.specs.Faults.{unless_drawn};
 ghost use Rattle.market.specs.Orders.{event_of};
 ghost use Rattle.rules.specs.Money.{unless_zero};
 ghost use Rattle.rules.specs.Sends.{exceeds_cash, exceeds_holding};
@@ -81,23 +80,6 @@ pub fn send_event(o: Order, failed: bool, cash: f64, x: AtSymbol, counts: Counts
         return event(o, 9);
     }
     event(o, counts.room_fault())
-}
-
-// The broker's 16, then the order's own event.
-pub fn sound_event(
-    fault: u32,
-    o: Order,
-    failed: bool,
-    cash: f64,
-    x: AtSymbol,
-    counts: Counts,
-) -> OrderEvent
-    ensures { result ≡ unless_drawn fault (event_at o failed cash x counts) (event_of o fault) }
-{
-    if fault != 0 {
-        return event(o, fault);
-    }
-    send_event(o, failed, cash, x, counts)
 }
 
 // A symbol's pending quantity with an order's effect.

@@ -39,3 +39,10 @@ impl fmt::Display for Failed {
         }
     }
 }
+
+// A run that did not come to its end is told on standard error.
+pub fn tell(rt: &impl Eprint, ended: Result<(), Failed>) {
+    if let Err(why) = ended {
+        let _ = eprintln!(rt; "rehearse: {why}");
+    }
+}

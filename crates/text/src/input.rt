@@ -120,3 +120,28 @@ impl<R: Read + Drop> Input<R> {
         }))
     }
 }
+
+#[cfg(test)]
+mod tests {
+    use super::*;
+
+    // A line, one that is too long, and one without its newline; then the input has ended.
+    #[test]
+    fn reads_lines(rt: HostRuntime) -> io::Result<()> {
+        let mut text = [b'x'; 65550];
+        text[..6].copy_from_slice(b"quiet\n");
+        text[65545..].copy_from_slice(b"\nfull");
+        let mut input = Input::new(rt.alloc(), text.as_slice())?;
+        for (number, word) in [
+            (1, Some(b"quiet".as_slice())),
+            (2, None),
+            (3, Some(b"full")),
+        ] {
+            let line = input.next_line()?;
+            assert_eq!(rt; line.map(|l| l.number), Some(number));
+            assert_eq!(rt; line.and_then(|l| l.text), word);
+        }
+        assert!(rt; input.next_line()?.is_none());
+        Ok(())
+    }
+}

@@ -7,4 +7,4 @@ use Rattle.portfolio.proofs.Symbols.{liquidation-cash}
 use Rattle.portfolio.proofs.state.Portfolio.get_liquidation_value.Goals as goal
 
 pub returns : goal.returns
-returns c = c.cash_with.ensures (sale_budget (money_of c.args.self)) (λ x y p. search rules) ∙ liquidation-cash (money_of c.args.self)
+returns c = c.cash_with.ensures (sale_budget (money_of c.args.self.now)) (λ x y p. search rules) ∙ liquidation-cash (money_of c.args.self.now)

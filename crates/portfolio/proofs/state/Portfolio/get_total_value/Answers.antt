@@ -6,4 +6,4 @@ use Rattle.portfolio.proofs.Symbols.{total-cash}
 use Rattle.portfolio.proofs.state.Portfolio.get_total_value.Goals as goal
 
 pub returns : goal.returns
-returns c = c.cash_with.ensures (λ x. x) (λ x y p. search rules) ∙ total-cash (money_of c.args.self)
+returns c = c.cash_with.ensures (λ x. x) (λ x y p. search rules) ∙ total-cash (money_of c.args.self.now)
