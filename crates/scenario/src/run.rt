@@ -51,28 +51,32 @@ impl<R: CpuClock, W: Write> Session<'_, R, W> {
         writeln!(self.out, " {reply}")
     }
 
-    // A liquidation, an insertion, or a deletion. It is answered first, so that its time is without the
-    // copy of what it leaves. The brokers that it leaves take much of the stack, so they are no part of
-    // the frame that the other lines have.
+    // A liquidation or an insertion. The brokers that they leave take much of the stack, so they are no
+    // part of the frame that the other lines have.
     #[inline(never)]
-    fn change(&mut self, from: Option<u64>, b: &mut UistBroker, c: &Call) -> io::Result<()> {
-        match c.verb {
-            Verb::Liquidate => {
-                let x = b.withdraw_cash_with_liquidation(c.amount);
-                self.reply(from, Reply::Cash(x.event))?;
-                *b = x.broker;
-            }
-            Verb::Insert => {
-                let x = b.insert_order(c.order);
-                self.reply(from, Reply::Event(x.event))?;
-                *b = x.broker;
-            }
-            _ => {
-                let x = b.delete_order(c.whole);
-                self.reply(from, Reply::Deleted(x.fault))?;
-                *b = x.broker;
-            }
+    fn sell_or_insert(
+        &mut self,
+        from: Option<u64>,
+        b: &mut UistBroker,
+        c: &Call,
+    ) -> io::Result<()> {
+        if matches!(c.verb, Verb::Liquidate) {
+            let x = b.withdraw_cash_with_liquidation(c.amount);
+            self.reply(from, Reply::Cash(x.event))?;
+            *b = x.broker;
+        } else {
+            let x = b.insert_order(c.order);
+            self.reply(from, Reply::Event(x.event))?;
+            *b = x.broker;
         }
+        Ok(())
+    }
+
+    // A deletion. It is answered first, so that its time is without the copy of what it leaves.
+    fn delete(&mut self, from: Option<u64>, b: &mut UistBroker, c: &Call) -> io::Result<()> {
+        let x = b.delete_order(c.whole);
+        self.reply(from, Reply::Deleted(x.fault))?;
+        *b = x.broker;
         Ok(())
     }
 
@@ -125,7 +129,8 @@ impl<R: CpuClock, W: Write> Session<'_, R, W> {
                 let reason = Form(line.reason(log.len()));
                 writeln!(self.out, " {reason}")
             }
-            Verb::Liquidate | Verb::Insert | Verb::Delete => self.change(from, b, c),
+            Verb::Liquidate | Verb::Insert => self.sell_or_insert(from, b, c),
+            Verb::Delete => self.delete(from, b, c),
             _ if !is_call(c) => self.view.set(&mut self.out, c),
             _ if log_calls::needs_log(c) => self.log_call(b, line.bytes(), c, log),
             _ if list_calls::is_listed(c) => self.list_call(b, line.bytes(), c),
