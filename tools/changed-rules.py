@@ -71,23 +71,23 @@ CHANGES = [
      "        if let Some(order) = wanted_at(p.lot, p.costs, w.symbol, difference, row)? {",
      "        let Some(wanted) = wanted_at(p.lot, p.costs, w.symbol, difference, row) else {\n            break;\n"
      "        };\n        if let Some(order) = wanted {"),
-    ("rules/Weights: plan_as", "the orders before 18 stay listed", "1009", "portfolio/src/weigh.rt",
-     "            return Plan::refused(18);",
-     "            for n in (0..count).rev() {\n"
-     "                if let Some(list) = wanted_orders(&self, total, &rows[..n]) {\n"
-     "                    return Plan { list, fault: 18 };\n                }\n            }\n"
-     "            return Plan::refused(18);"),
+    ("rules/Weights: plan_as", "the orders before 18 stay listed", "1009", "broker/src/update.rt",
+     "            Err(fault) => (OrderList::none(), 0.0, Some(fault)),\n",
+     "            Err(fault) => {\n                let rows = weights.rows();\n"
+     "                let mut list = OrderList::none();\n                for n in 0..rows.len() {\n"
+     "                    let before = Weights::of(&rows[..n]);\n"
+     "                    list = portfolio.diff_against_target_weights(&before).unwrap_or(list);\n"
+     "                }\n                (list, 0.0, Some(fault))\n            }\n"),
     ("rules/Weights: plan_tests", "18 before 13", "1011", "portfolio/src/weigh.rt",
-     "        if total == 0.0 {\n            return Plan::refused(13);\n        }\n", "",
-     "            return Plan::refused(18);\n        };\n",
-     "            return Plan::refused(18);\n        };\n        if total == 0.0 {\n"
-     "            return Plan::refused(13);\n        }\n"),
+     "        if total == 0.0 {\n            return Err(Fault::NothingToWeigh);\n        }\n", "",
+     ".ok_or(Fault::BeyondLot)?;\n",
+     ".ok_or(Fault::BeyondLot)?;\n        if total == 0.0 {\n            return Err(Fault::NothingToWeigh);\n"
+     "        }\n"),
 
     ("rules/Amounts: size", "a sale of negative shares", "502", "portfolio/src/weigh.rt",
      "let size = if shares < 0.0 { -shares } else { shares };", "let size = shares;"),
     ("ledger/Ledger: weigh_answer", "an update answers the liquidation value", "515", "broker/src/update.rt",
-     "unless_drawn(plan.fault, portfolio.get_total_value(), 0.0)",
-     "unless_drawn(plan.fault, portfolio.get_liquidation_value(), 0.0)"),
+     "(list, portfolio.get_total_value(), None)", "(list, portfolio.get_liquidation_value(), None)"),
 
     ("rules/Values: value_at", "the ask for the bid", "441", "portfolio/src/value.rt",
      "q.bid * unless_zero(holding)?", "q.ask * unless_zero(holding)?"),
@@ -199,15 +199,13 @@ CHANGES = [
     ("rules/Money: failed_if", "Ready after a failed liquidation", "410, 471", "broker/src/check.rt",
      "funds.failed = true;", "funds.failed = false;"),
     ("ledger/Ledger: call_tests", "a Failed broker takes deposits", "472", "broker/src/cash.rt",
-     "match self.cash_refusal(cash) {\n            Some(refusal) => refusal,\n"
-     "            None => self.take(account::credited",
-     "match self.amount_refusal(cash) {\n            Some(refusal) => refusal,\n"
-     "            None => self.take(account::credited"),
+     "        let event = self.move_cash(cash, account::credited);\n",
+     "        let failed = self.portfolio.funds.failed;\n        self.portfolio.funds.failed = false;\n"
+     "        let event = self.move_cash(cash, account::credited);\n        self.portfolio.funds.failed = failed;\n"),
     ("ledger/Ledger: call_tests", "a Failed broker pays withdrawals", "472", "broker/src/cash.rt",
-     "match self.cash_refusal(cash) {\n            Some(refusal) => refusal,\n"
-     "            None => self.take(account::debited",
-     "match self.amount_refusal(cash) {\n            Some(refusal) => refusal,\n"
-     "            None => self.take(account::debited"),
+     "        let event = self.move_cash(cash, account::debited);\n",
+     "        let failed = self.portfolio.funds.failed;\n        self.portfolio.funds.failed = false;\n"
+     "        let event = self.move_cash(cash, account::debited);\n        self.portfolio.funds.failed = failed;\n"),
     ("ledger/Ledger: call_tests", "a Failed broker refuses liquidations", "472", "broker/src/liquidate.rt",
      "            Some(refusal) => refusal,\n",
      "            Some(refusal) => refusal,\n"
@@ -226,45 +224,47 @@ CHANGES = [
     ("rules/Sends: exceeds_holding", "a sale of an unheld symbol fails", "404", "sender/src/lib.rt",
      "if holding == 0.0 {\n        return false;", "if holding == 0.0 {\n        return true;"),
     ("rules/Sends: send_tests_at", "limit and stop orders are sent", "407", "sender/src/lib.rt",
-     "    if !o.is_market() {\n        return event(o, 6);\n    }\n", ""),
+     "    if !o.is_market() {\n        return Some(Fault::NotMarket);\n    }\n", ""),
     ("rules/Sends: send_tests_at", "a Failed broker takes sends", "408", "sender/src/lib.rt",
-     "    if failed {\n        return event(o, 4);\n    }\n", ""),
+     "    if failed {\n        return Some(Fault::BrokerFailed);\n    }\n", ""),
     ("rules/Sends: send_tests_at", "5 comes before 4", "408", "sender/src/lib.rt",
-     "    if failed {\n        return event(o, 4);\n    }\n    let Some(q) = x.quote else {\n        return event(o, 5);\n"
+     "    if failed {\n        return Some(Fault::BrokerFailed);\n    }\n    let Some(q) = x.quote else {\n"
+     "        return Some(Fault::Unquoted);\n"
      "    };\n",
-     "    let Some(q) = x.quote else {\n        return event(o, 5);\n    };\n    if failed {\n"
-     "        return event(o, 4);\n    }\n"),
+     "    let Some(q) = x.quote else {\n        return Some(Fault::Unquoted);\n    };\n    if failed {\n"
+     "        return Some(Fault::BrokerFailed);\n    }\n"),
     ("rules/Sends: send_tests_at", "6 comes before 5", "406", "sender/src/lib.rt",
-     "    let Some(q) = x.quote else {\n        return event(o, 5);\n    };\n    if !o.is_market() {\n"
-     "        return event(o, 6);\n    }\n",
-     "    if !o.is_market() {\n        return event(o, 6);\n    }\n    let Some(q) = x.quote else {\n"
-     "        return event(o, 5);\n    };\n"),
+     "    let Some(q) = x.quote else {\n        return Some(Fault::Unquoted);\n    };\n    if !o.is_market() {\n"
+     "        return Some(Fault::NotMarket);\n    }\n",
+     "    if !o.is_market() {\n        return Some(Fault::NotMarket);\n    }\n    let Some(q) = x.quote else {\n"
+     "        return Some(Fault::Unquoted);\n    };\n"),
     ("rules/Sends: send_tests_at", "7 comes before 6", "407", "sender/src/lib.rt",
-     "    if !o.is_market() {\n        return event(o, 6);\n    }\n    if exceeds_cash(o, cash, q) {\n"
-     "        return event(o, 7);\n    }\n",
-     "    if exceeds_cash(o, cash, q) {\n        return event(o, 7);\n    }\n    if !o.is_market() {\n"
-     "        return event(o, 6);\n    }\n"),
+     "    if !o.is_market() {\n        return Some(Fault::NotMarket);\n    }\n    if exceeds_cash(o, cash, q) {\n"
+     "        return Some(Fault::ExceedsCash);\n    }\n",
+     "    if exceeds_cash(o, cash, q) {\n        return Some(Fault::ExceedsCash);\n    }\n    if !o.is_market() {\n"
+     "        return Some(Fault::NotMarket);\n    }\n"),
     ("rules/Sends: send_tests_at", "9 comes before 7", "402", "sender/src/lib.rt",
-     "    if exceeds_cash(o, cash, q) {\n        return event(o, 7);\n    }\n",
-     "    if o.shares == 0.0 {\n        return event(o, 9);\n    }\n    if exceeds_cash(o, cash, q) {\n"
-     "        return event(o, 7);\n    }\n"),
+     "    if exceeds_cash(o, cash, q) {\n        return Some(Fault::ExceedsCash);\n    }\n",
+     "    if o.shares == 0.0 {\n        return Some(Fault::ZeroShares);\n    }\n    if exceeds_cash(o, cash, q) {\n"
+     "        return Some(Fault::ExceedsCash);\n    }\n"),
     ("rules/Sends: send_tests_at", "9 comes before 8", "405", "sender/src/lib.rt",
-     "    if exceeds_holding(o, x.holding) {\n        return event(o, 8);\n    }\n",
-     "    if o.shares == 0.0 {\n        return event(o, 9);\n    }\n    if exceeds_holding(o, x.holding) {\n"
-     "        return event(o, 8);\n    }\n"),
+     "    if exceeds_holding(o, x.holding) {\n        return Some(Fault::ExceedsHolding);\n    }\n",
+     "    if o.shares == 0.0 {\n        return Some(Fault::ZeroShares);\n    }\n"
+     "    if exceeds_holding(o, x.holding) {\n"
+     "        return Some(Fault::ExceedsHolding);\n    }\n"),
     ("rules/Sends: send_tests_at", "zero shares are taken", "402, 404", "sender/src/lib.rt",
-     "    if o.shares == 0.0 {\n        return event(o, 9);\n    }\n", ""),
+     "    if o.shares == 0.0 {\n        return Some(Fault::ZeroShares);\n    }\n", ""),
     ("rules/Sends: send_tests", "10 and 11 come before 9", "409", "sender/src/lib.rt",
-     "    if o.shares == 0.0 {\n        return event(o, 9);\n    }\n",
-     "    let room = counts.room_fault();\n    if room != 0 {\n        return event(o, room);\n    }\n"
-     "    if o.shares == 0.0 {\n        return event(o, 9);\n    }\n"),
+     "    if o.shares == 0.0 {\n        return Some(Fault::ZeroShares);\n    }\n",
+     "    if let Some(fault) = counts.room_fault() {\n        return Some(fault);\n    }\n"
+     "    if o.shares == 0.0 {\n        return Some(Fault::ZeroShares);\n    }\n"),
     ("rules/Sends: send_tests", "4 comes before 2", "408", "sender/src/lib.rt",
-     "    let fault = o.fault();\n    if fault != 0 {",
-     "    if failed {\n        return event(o, 4);\n    }\n    let fault = o.fault();\n    if fault != 0 {"),
+     "    if let Some(fault) = o.fault() {",
+     "    if failed {\n        return Some(Fault::BrokerFailed);\n    }\n    if let Some(fault) = o.fault() {"),
     ("orders/Orders: room_tests", "11 comes before 10", "419", "exchange/src/insert.rt",
-     "        if self.taken == self.room {\n            return 10;\n        }\n",
-     "        if self.resting + self.waits == Counts::WIDTH {\n            return 11;\n        }\n"
-     "        if self.taken == self.room {\n            return 10;\n        }\n"),
+     "        if self.taken == self.room {\n            return Some(Fault::LogFull);\n        }\n",
+     "        if self.resting + self.waits == Counts::WIDTH {\n            return Some(Fault::BookFull);\n        }\n"
+     "        if self.taken == self.room {\n            return Some(Fault::LogFull);\n        }\n"),
 
     ("exchange/Delete: delete_of", "places from 255 on are not looked at", "", "exchange/src/delete.rt",
      "if resting[at].id == order_id {", "if i < 255 && resting[at].id == order_id {"),
@@ -288,10 +288,9 @@ CHANGES = [
     ("rules/Basis: basis_step", "every symbol's trades count", "481", "portfolio/src/basis.rt",
      "if t.symbol != symbol {", "if t.symbol > 255 {"),
     ("rules/Basis: basis_of", "the value for the quotient", "481", "lent/src/uist.rt",
-     "b.value / b.quantity", "b.value"),
+     "basis.value / basis.quantity", "basis.value"),
     ("rules/Basis: basis_of", "a basis at quantity zero", "482", "lent/src/uist.rt",
-     "    let amount = if fault != 0 || b.quantity == 0.0 {\n        None\n",
-     "    let amount = if fault != 0 {\n        None\n    } else if b.quantity == 0.0 {\n        Some(0.0)\n"),
+     "return Ok(None);", "return Ok(Some(0.0));"),
     ("turnover/Turnover: lesser", "the greater of the two sums", "4001, 4002", "turnover/src/lib.rt",
      "if self.bought < self.sold {", "if self.sold < self.bought {"),
     ("turnover/Turnover: lesser", "both sums added, as in document 01", "4001, 4002", "turnover/src/lib.rt",
@@ -323,7 +322,7 @@ CHANGES = [
     ("turnover/Turnover: no_sums", "the bought sum starts from one", "4001, 4002", "turnover/src/lib.rt",
      "bought: 0.0,", "bought: 1.0,"),
     ("lent/Logs: logged_in", "turnover reads the old rows too", "", "lent/src/uist.rt",
-     "Sums::of(&log[..n])", "Sums::of(log)"),
+     "Sums::of(trades)", "Sums::of(log)"),
 
     ("corrections/Corrections: newer", "an earlier date wins", "5001, 5002", "corrections/src/order.rt",
      "(a.date, a.revision) > (b.date, b.revision)", "(b.date, a.revision) > (a.date, b.revision)"),
@@ -368,18 +367,19 @@ CHANGES = [
     ("corrections/Corrections: some_alike", "the last row is not compared", "5008", "corrections/src/faults.rt",
      "&rows[i + 1..]", "&rows[i + 1..(rows.len() - 1).max(i + 1)]"),
     ("corrections/Corrections: some_alike", "no 21", "5008", "corrections/src/faults.rt",
-     "if some_alike(rows) { 21 } else { 0 }", "if some_alike(rows) { 0 } else { 0 }"),
+     "some_alike(rows).then_some(", "(some_alike(rows) && false).then_some("),
     ("corrections/Corrections: vendor_tests", "21 before 1 and 2", "5010", "corrections/src/faults.rt",
-     "    let fault = rows_fault(rows);\n",
-     "    if some_alike(rows) {\n        return 21;\n    }\n    let fault = rows_fault(rows);\n"),
+     "    if let Some(fault) = rows_fault(rows) {",
+     "    if some_alike(rows) {\n        return Some(Fault::AlikeRows);\n    }\n"
+     "    if let Some(fault) = rows_fault(rows) {"),
     ("corrections/Corrections: vendor_tests", "the last row is not tested by 1 and 2", "5007", "corrections/src/faults.rt",
-     "for row in rows {", "for row in &rows[..rows.len().saturating_sub(1)] {"),
+     "rows.iter().find_map(", "rows[..rows.len().saturating_sub(1)].iter().find_map("),
     ("corrections/Corrections: correct_tests", "15 for a table of 256 rows", "5011", "corrections/src/faults.rt",
      "if room < 256 {", "if room <= 256 {"),
     ("corrections/Corrections: correct_tests", "15 only where the rows do not fit", "5011", "corrections/src/faults.rt",
      "if room < 256 {", "if room < rows.len() {"),
-    ("vendor/Corrects: AnswersCorrect", "the first row is stored in each place", "", "vendor/src/answer.rt",
-     "    slices::store(table, 0, &x.rows[..x.count]);", "    slices::store(table, 0, &[x.rows[0]; 257][..x.count]);"),
+    ("vendor/Corrects: AnswersCorrect", "the first row is stored in each place", "", "vendor/src/store.rt",
+     "slices::store(table, 0, &x.rows[..x.count]);", "slices::store(table, 0, &[x.rows[0]; 257][..x.count]);"),
 
     ("market/Trades: meets_kind", "limit sell and stop buy at their price rest", "306, 308", "market/src/trade.rt",
      "price <= at", "price < at"),
@@ -412,27 +412,34 @@ CHANGES = [
      "is_price(self.bid) && is_price(self.ask)", "is_price(self.bid)"),
     ("market/Quotes: row_tests", "3 comes before 2", "205", "market/src/row.rt",
      "        if !self.is_sound() {",
-     "        if self.symbol() < least {\n            return 3;\n        }\n        if !self.is_sound() {"),
+     "        if self.symbol() < least {\n            return Some(Fault::NotAscending);\n        }\n"
+     "        if !self.is_sound() {"),
     ("market/Quotes: row_tests", "2 comes before 1", "205", "market/src/row.rt",
      "        if self.symbol() > 255 {",
-     "        if !self.is_sound() {\n            return 2;\n        }\n        if self.symbol() > 255 {"),
+     "        if !self.is_sound() {\n            return Some(Fault::BadValue);\n        }\n"
+     "        if self.symbol() > 255 {"),
     ("market/Quotes: table_tests", "a symbol may come twice", "204", "market/src/quote.rt",
      "    fn is_sound(&self) -> bool {\n",
-     "    fn fault(&self, least: u32) -> u32 {\n        if self.symbol > 255 {\n            return 1;\n        }\n"
-     "        if !self.is_sound() {\n            return 2;\n        }\n"
-     "        if self.symbol + 1 < least { 3 } else { 0 }\n    }\n\n    fn is_sound(&self) -> bool {\n"),
+     "    fn fault(&self, least: u32) -> Option<crate::fault::Fault> {\n        if self.symbol > 255 {\n"
+     "            return Some(crate::fault::Fault::UnknownSymbol);\n        }\n        if !self.is_sound() {\n"
+     "            return Some(crate::fault::Fault::BadValue);\n        }\n"
+     "        (self.symbol + 1 < least).then_some(crate::fault::Fault::NotAscending)\n    }\n\n"
+     "    fn is_sound(&self) -> bool {\n"),
     ("ledger/Ledger: check_tests", "the fetched table's number first", "475", "broker/src/check.rt",
-     "fault::first(tradable.fault(), fetched.fault()),", "fault::first(fetched.fault(), tradable.fault()),"),
+     "            .or(tradable.fault())\n            .or(fetched.fault())\n",
+     "            .or(fetched.fault())\n            .or(tradable.fault())\n"),
 
     ("market/Weights: weight_tests", "a NaN weight passes", "209", "market/src/weight.rt",
      "        floats::finite(self.weight)\n", "        true\n"),
     ("market/Weights: weight_rows", "a symbol may come twice", "209", "market/src/weight.rt",
      "    fn is_sound(&self) -> bool {\n",
-     "    fn fault(&self, least: u32) -> u32 {\n        if self.symbol > 255 {\n            return 1;\n        }\n"
-     "        if !self.is_sound() {\n            return 2;\n        }\n"
-     "        if self.symbol + 1 < least { 3 } else { 0 }\n    }\n\n    fn is_sound(&self) -> bool {\n"),
+     "    fn fault(&self, least: u32) -> Option<crate::fault::Fault> {\n        if self.symbol > 255 {\n"
+     "            return Some(crate::fault::Fault::UnknownSymbol);\n        }\n        if !self.is_sound() {\n"
+     "            return Some(crate::fault::Fault::BadValue);\n        }\n"
+     "        (self.symbol + 1 < least).then_some(crate::fault::Fault::NotAscending)\n    }\n\n"
+     "    fn is_sound(&self) -> bool {\n"),
     ("market/Orders: order_tests", "the price is not tested", "210", "market/src/order.rt",
-     "            Some(price) if !floats::finite(price) => 2,\n", ""),
+     "            Some(price) if !floats::finite(price) => Some(Fault::BadValue),\n", ""),
 
     ("costs/Costs: trade_impact", "per share lowers a buy price", "103", "costs/src/lib.rt",
      "net.price += val,", "net.price -= val,"),
@@ -461,12 +468,15 @@ CHANGES = [
     ("broker/Build: builder_tests", "16 costs draw 14", "117", "broker/src/build.rt",
      "if costs.count > 16 {", "if costs.count >= 16 {"),
     ("broker/Build: builder_tests", "17 before 14", "1006", "broker/src/build.rt",
-     "    if costs.count > 16 {\n        return 14;\n    }\n    if !lot::is_lot(lot) {\n        return 17;\n    }\n",
-     "    if !lot::is_lot(lot) {\n        return 17;\n    }\n    if costs.count > 16 {\n        return 14;\n    }\n"),
+     "    if costs.count > 16 {\n        return Some(Fault::TooManyCosts);\n    }\n    if !lot::is_lot(lot) {\n"
+     "        return Some(Fault::LotOutOfRange);\n    }\n",
+     "    if !lot::is_lot(lot) {\n        return Some(Fault::LotOutOfRange);\n    }\n    if costs.count > 16 {\n"
+     "        return Some(Fault::TooManyCosts);\n    }\n"),
     ("broker/Build: builder_tests", "17 after 2", "1006", "broker/src/build.rt",
-     "    if !lot::is_lot(lot) {\n        return 17;\n    }\n", "",
-     "            return 2;\n        }\n    }\n    0\n",
-     "            return 2;\n        }\n    }\n    if lot::is_lot(lot) { 0 } else { 17 }\n"),
+     "    if !lot::is_lot(lot) {\n        return Some(Fault::LotOutOfRange);\n    }\n", "",
+     "            return Some(Fault::BadValue);\n        }\n    }\n    None\n",
+     "            return Some(Fault::BadValue);\n        }\n    }\n"
+     "    (!lot::is_lot(lot)).then_some(Fault::LotOutOfRange)\n"),
 
     ("floats/Whole: floor_of", "towards zero below zero", "101", "floats/src/lib.rt",
      "return -(whole_over(-x) as f64);", "return -(whole_under(-x) as f64);",
@@ -568,14 +578,13 @@ LINE_CHANGES = [
     (0, "lines/Lines: text_of", "255 is left out", "2017", "lines/src/write.rt",
      "t.rows.iter().enumerate()", "t.rows[..255].iter().enumerate()"),
     (7, "lines/Reading: unfinished", "a last line without newline is taken", "2012", "lines/src/read.rt",
-     "        let Some(text) = part.strip_suffix(b\"\\n\") else {\n            return refused(19);\n        };\n",
-     "        let text = part.strip_suffix(b\"\\n\").unwrap_or(part);\n"),
+     "part.strip_suffix(b\"\\n\").ok_or(Fault::MalformedLine)?", "part.strip_suffix(b\"\\n\").unwrap_or(part)"),
     (8, "lines/Reading: lines_of", "empty lines are passed over", "2012", "lines/src/read.rt",
-     "        let Some(q)",
-     "        if text.is_empty() {\n            continue;\n        }\n        let Some(q)"),
+     "        let q = line::line(text)",
+     "        if text.is_empty() {\n            continue;\n        }\n        let q = line::line(text)"),
     (11, "lines/Reading: lines_of", "a carriage return is passed over", "2012", "lines/src/read.rt",
-     "        let Some(q) = line::line(text)",
-     "        let text = text.strip_suffix(b\"\\r\").unwrap_or(text);\n        let Some(q) = line::line(text)"),
+     "        let q = line::line(text)",
+     "        let text = text.strip_suffix(b\"\\r\").unwrap_or(text);\n        let q = line::line(text)"),
     (86, "lines/Reading: line_tests", "1 comes before 19", "2013", "lines/src/line.rt",
      "    let date = decimal::date(date)?;",
      "    if symbol > 255 {\n        return Some(Quote {\n            symbol: 256,\n            ..Quote::blank()\n"
@@ -585,18 +594,17 @@ LINE_CHANGES = [
      "    if bid == 0.0 {\n        return Some(Quote {\n            symbol: capped(symbol),\n            bid,\n"
      "            ask: bid,\n            date,\n        });\n    }\n    let ask = number::float(ask)?;"),
     (93, "lines/Reading: read_tests", "a later line's 19 comes first", "2013", "lines/src/read.rt",
-     "    let mut least: u32 = 0;", "    let mut least: u32 = 0;\n    let mut kept: u32 = 0;",
-     "            return refused(fault);", "            kept = fault;\n            continue;",
+     "    let mut least: u32 = 0;", "    let mut least: u32 = 0;\n    let mut kept: Option<Fault> = None;",
+     "            return Err(fault);", "            kept = Some(fault);\n            continue;",
      "        least = q.symbol + 1;\n    }\n",
-     "        least = q.symbol + 1;\n    }\n    if kept != 0 {\n        return refused(kept);\n    }\n"),
+     "        least = q.symbol + 1;\n    }\n    if let Some(fault) = kept {\n        return Err(fault);\n    }\n"),
     (96, "lines/Reading: read_tests", "20 at 65,536 bytes", "2015", "lines/src/read.rt",
      "if input.len() > 65536 {", "if input.len() >= 65536 {"),
     (97, "lines/Reading: read_tests", "no 20 at 65,537 bytes", "2015", "lines/src/read.rt",
      "if input.len() > 65536 {", "if input.len() > 65537 {"),
     (100, "lines/Reading: read_tests", "20 comes behind the lines' numbers", "2015", "lines/src/read.rt",
-     "    if input.len() > 65536 {\n        return refused(20);\n    }\n    lines_read(input)\n",
-     "    let x = lines_read(input);\n    if x.fault == 0 && input.len() > 65536 {\n        return refused(20);\n    }\n"
-     "    x\n"),
+     "    if input.len() > 65536 {\n        return Err(Fault::TextTooLong);\n    }\n    lines_read(input)\n",
+     "    let x = lines_read(input)?;\n    if input.len() > 65536 {\n        return Err(Fault::TextTooLong);\n    }\n    Ok(x)\n"),
 
     (81, "market/Rows: rows_tests", "a symbol may come twice", "204", "lines/src/read.rt",
      "least = q.symbol + 1;", "least = q.symbol;"),
@@ -606,10 +614,10 @@ LINE_CHANGES = [
      "if self.symbol() > 255 {", "if self.symbol() > 254 {"),
     (90, "market/Quotes: row_tests", "2 comes before 1", "205", "market/src/row.rt",
      "        if self.symbol() > 255 {",
-     "        if !self.is_sound() {\n            return 2;\n        }\n        if self.symbol() > 255 {"),
+     "        if !self.is_sound() {\n            return Some(Fault::BadValue);\n        }\n        if self.symbol() > 255 {"),
     (91, "market/Quotes: row_tests", "3 comes before 2", "205", "market/src/row.rt",
      "        if !self.is_sound() {",
-     "        if self.symbol() < least {\n            return 3;\n        }\n        if !self.is_sound() {"),
+     "        if self.symbol() < least {\n            return Some(Fault::NotAscending);\n        }\n        if !self.is_sound() {"),
     (68, "market/Quotes: row_tests", "the ask is not tested", "203", "market/src/quote.rt",
      "is_price(self.bid) && is_price(self.ask)", "is_price(self.bid)"),
     (67, "market/Quotes: is_price", "zero is a price", "203", "market/src/quote.rt", "x > 0.0", "x >= 0.0"),
@@ -617,7 +625,7 @@ LINE_CHANGES = [
      "floats::finite(x) && x > 0.0", "x > 0.0"),
     (75, "market/Quotes: is_price", "NaN is a price", "203", "market/src/quote.rt",
      "floats::finite(x) && x > 0.0", "x != x || floats::finite(x) && x > 0.0"),
-    (0, "vendor/Answers: AnswersRead", "the last row is not stored", "", "vendor/src/answer.rt",
+    (0, "vendor/Answers: AnswersRead", "the last row is not stored", "", "vendor/src/store.rt",
      "&x.rows[..x.count]", "&x.rows[..x.count.max(1) - 1]"),
 ]
 

@@ -2,8 +2,11 @@
 // The functions below them open an account of some cash and move it there.
 #![tactic(auto)]
 
+ghost use Rattle.std.specs.Fn.{FnOnceReturnsAtMut};
 ghost use Rattle.std.specs.Prelude.{◌≡◌};
-ghost use Rattle.account.specs.Account.{credit_of, debit_of, force_of, account_of, debit_number, no_number, Tells};
+ghost use Rattle.account.specs.Account.{credit_of, debit_of, force_of, account_of, debit_number, no_number, cash_fault, Tells};
+
+use market::fault::Fault;
 
 // The Rust's four events, then those of the numbers 2 and 16. Each carries its amount.
 #[derive(Clone, Copy)]
@@ -14,6 +17,21 @@ pub enum BrokerCashEvent {
     OperationFailure(f64),
     NotFinite(f64),
     Broken(f64),
+}
+
+impl BrokerCashEvent {
+    // 2, 4, 12 and 16, as the event tells them.
+    pub fn fault(self) -> Option<Fault>
+        ensures { result ≡ cash_fault self }
+    {
+        match self {
+            BrokerCashEvent::DepositSuccess(_) | BrokerCashEvent::WithdrawSuccess(_) => None,
+            BrokerCashEvent::NotFinite(_) => Some(Fault::BadValue),
+            BrokerCashEvent::OperationFailure(_) => Some(Fault::BrokerFailed),
+            BrokerCashEvent::WithdrawFailure(_) => Some(Fault::WithdrawFailed),
+            BrokerCashEvent::Broken(_) => Some(Fault::Unsound),
+        }
+    }
 }
 
 #[derive(Clone, Copy)]
@@ -58,35 +76,33 @@ impl Account {
     }
 }
 
-pub fn credited(cash: f64, value: f64) -> Moved
-    ensures { (result ≡ credit_of cash value) × Tells result.event (no_number cash value) value }
+// Opens an account of this cash, and moves it there.
+fn on_account<F: FnOnce(&mut Account) -> BrokerCashEvent>(cash: f64, mv: F) -> Moved
+    requires { F.IsAlwaysCallable mv }
+    ensures { FnOnceReturnsAtMut F.FnOnce mv (record { cash = cash }) result.event (record { cash = result.cash }) }
 {
     let mut account = Account { cash };
-    let event = account.credit(value);
+    let event = mv(&mut account);
     Moved {
         cash: account.cash,
         event,
     }
+}
+
+pub fn credited(cash: f64, value: f64) -> Moved
+    ensures { (result ≡ credit_of cash value) × Tells result.event (no_number cash value) value }
+{
+    on_account(cash, |account| account.credit(value))
 }
 
 pub fn debited(cash: f64, value: f64) -> Moved
     ensures { (result ≡ debit_of cash value) × Tells result.event (debit_number cash value) value }
 {
-    let mut account = Account { cash };
-    let event = account.debit(value);
-    Moved {
-        cash: account.cash,
-        event,
-    }
+    on_account(cash, |account| account.debit(value))
 }
 
 pub fn force_debited(cash: f64, value: f64) -> Moved
     ensures { (result ≡ force_of cash value) × Tells result.event (no_number cash value) value }
 {
-    let mut account = Account { cash };
-    let event = account.debit_force(value);
-    Moved {
-        cash: account.cash,
-        event,
-    }
+    on_account(cash, |account| account.debit_force(value))
 }

@@ -1,5 +1,5 @@
 -- The first rows of a caller's arrays, which are lent, and the entries past them, which are not. Definitions only.
-use Rattle.std.specs.Prelude.{ℕ, min, List, take, drop, replicate}
+use Rattle.std.specs.Prelude.{ℕ, min, List, take, drop, replicate, None}
 use Rattle.market.specs.Orders.{blank_order, event_of}
 use Rattle.market.specs.declared.order.Order.{Order}
 use Rattle.market.specs.declared.order.OrderEvent.{OrderEvent}
@@ -34,7 +34,7 @@ past_lent room l = drop (min room 1024) l
 
 -- what it holds before the call
 unfoldable pub blank_events : List OrderEvent
-blank_events = replicate 1024 (event_of blank_order 0)
+blank_events = replicate 1024 (event_of blank_order None)
 
 unfoldable pub blank_orders : List Order
 blank_orders = replicate 1024 blank_order

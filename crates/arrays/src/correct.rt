@@ -3,11 +3,11 @@
 ghost use Rattle.std.specs.Prelude.{◌≡◌};
 ghost use Rattle.arrays.specs.Corrects.{correct_on};
 
-use crate::Lent;
 use crate::read::no_quotes;
+use crate::{Lent, lend};
+use market::fault::Fault;
 use market::quote::Quote;
 use market::vendor_quote::VendorQuote;
-use vendor::answer::TableAnswer;
 use vendor::correct::correct_quotes;
 
 // Corrects the first `n` of the vendor's rows, at most 1,100, to the first `room` places of a blank
@@ -16,10 +16,9 @@ pub fn correct_on(
     rows: &[VendorQuote; 1100],
     n: usize,
     room: usize,
-) -> Lent<TableAnswer, [Quote; 1024]>
+) -> Lent<Result<usize, Fault>, [Quote; 1024]>
     ensures { result ≡ correct_on rows.now n room }
 {
-    let mut list = no_quotes();
-    let answer = correct_quotes(&rows[..n.min(1100)], &mut list[..room.min(1024)]);
-    Lent { answer, list }
+    let given = &rows[..n.min(1100)];
+    lend(no_quotes(), room, |table| correct_quotes(given, table))
 }

@@ -3,6 +3,7 @@
 #![tactic(auto)]
 
 ghost use Rattle.std.specs.Prelude.{◌≡◌};
+ghost use Rattle.std.specs.Fn.{FnOnceReturnsAtMut};
 ghost use Rattle.broker.specs.Lent.{build_for};
 ghost use Rattle.lent.specs.Answers.{AnswersCheck, AnswersSend, AnswersWalk, AnswersUpdate};
 ghost use Rattle.arrays.specs.Arrays.{tradable_in, fetched_in, weights_in, orders_in, lent_of, past_lent, blank_events, blank_orders};
@@ -11,11 +12,11 @@ pub mod clock;
 pub mod correct;
 pub mod read;
 
-use broker::build::Built;
 use broker::state::UistBroker;
 use costs::TradeCosts;
 use lent::uist;
-use lent::uist::{CheckAnswer, SendAnswer, UpdateAnswer, WalkAnswer};
+use lent::uist::{CheckAnswer, UpdateAnswer};
+use market::fault::{After, Fault};
 use market::order::{Order, OrderEvent};
 use market::quote::Quote;
 use market::trade::Trade;
@@ -62,8 +63,9 @@ pub struct Orders {
 fn no_events() -> [OrderEvent; 1024]
     ensures { result ≡ blank_events }
 {
-    let o = Order::blank();
-    [OrderEvent { order: o, fault: 0 }; 1024]
+    let order = Order::blank();
+    let blank = OrderEvent { order, fault: None };
+    [blank; 1024]
 }
 
 #[tactic(auto, unfolding(crate::specs::Arrays::blank_orders))]
@@ -73,8 +75,22 @@ fn no_orders() -> [Order; 1024]
     [Order::blank(); 1024]
 }
 
+// Lends the first `room` places of an array to a call: its answer, with the array.
+fn lend<T: Copy, A, F: FnOnce(&mut [T]) -> A>(
+    mut list: [T; 1024],
+    room: usize,
+    call: F,
+) -> Lent<A, [T; 1024]>
+    requires { F.IsAlwaysCallable call }
+    ensures lent { FnOnceReturnsAtMut F.FnOnce call (lent_of room list) result.answer (lent_of room result.list) }
+    ensures past { past_lent room result.list ≡ past_lent room list }
+{
+    let answer = call(&mut list[..room.min(1024)]);
+    Lent { answer, list }
+}
+
 // A fresh broker for the lent log.
-pub fn build_on(costs: TradeCosts, lot: u32, x: &Lists, log: &[Trade]) -> Built
+pub fn build_on(costs: TradeCosts, lot: u32, x: &Lists, log: &[Trade]) -> Result<UistBroker, Fault>
     ensures { result ≡ build_for costs lot (tradable_in x.now) log.now }
 {
     uist::build(costs, lot, &x.tradable[..x.first.min(512)], log)
@@ -98,28 +114,29 @@ pub fn check_on(
 }
 
 // Sends a list of orders; past the entries lent the array of events stays blank.
-pub fn send_on(b: UistBroker, x: &Orders) -> Lent<SendAnswer, [OrderEvent; 1024]>
+pub fn send_on(b: UistBroker, x: &Orders) -> Lent<After<UistBroker>, [OrderEvent; 1024]>
     ensures { AnswersSend b (orders_in x.now) (lent_of x.now.room blank_events) result.answer (lent_of x.now.room result.list) × (past_lent x.now.room result.list ≡ past_lent x.now.room blank_events) }
 {
-    let k = x.count.min(1024);
-    let r = x.room.min(1024);
-    let mut list = no_events();
-    let answer = uist::send_orders(b, &x.list[..k], &mut list[..r]);
-    Lent { answer, list }
+    let orders = &x.list[..x.count.min(1024)];
+    lend(
+        no_events(),
+        x.room,
+        |events| uist::send_orders(b, orders, events),
+    )
 }
 
 // The walk alone; past the entries lent the array of orders stays blank.
-pub fn walk_on(b: UistBroker, x: &Lists) -> Lent<WalkAnswer, [Order; 1024]>
+pub fn walk_on(b: UistBroker, x: &Lists) -> Lent<Result<usize, Fault>, [Order; 1024]>
     ensures { AnswersWalk b (weights_in x.now) (lent_of x.now.room blank_orders) result.answer (lent_of x.now.room result.list) × (past_lent x.now.room result.list ≡ past_lent x.now.room blank_orders) }
 {
-    let m = x.third.min(512);
-    let r = x.room.min(1024);
-    let mut list = no_orders();
-    let answer = uist::diff_against_target_weights(b, &x.weights[..m], &mut list[..r]);
-    Lent { answer, list }
+    let weights = &x.weights[..x.third.min(512)];
+    lend(no_orders(), x.room, |orders| {
+        uist::diff_against_target_weights(b, weights, orders)
+    })
 }
 
-// An update; its time is left free, and past the entries lent the array of events stays blank.
+// An update; its time is left free, and past the entries lent the array of events stays blank. It
+// lends the array by itself: of a log that a closure changes, a proof by `lend` knows nothing.
 pub fn update_on(
     rt: &impl CpuClock,
     b: UistBroker,

@@ -1,5 +1,5 @@
 -- An order's event by what its tests read, the counts that sends keep, and the loop that sends a list. Assumes nothing.
-use Prim.Native.Nat.{ℕ, zero, suc, ◌+◌, ◌≤◌, ◌<◌, ◌%◌}
+use Prim.Native.Nat.{ℕ, suc, ◌+◌, ◌≤◌, ◌<◌, ◌%◌}
 use mathlib.Core.Path.{◌≡◌, refl, ap, sym, ◌∙◌}
 use mathlib.Core.Bool.{Bool, true, false, cond}
 use mathlib.Core.List.{List, [], ◌∷◌, ◌++◌, foldl-append}
@@ -16,31 +16,30 @@ use lib.Seq.{take-suc, length-take-le}
 use Rattle.lists.specs.Lists.{over}
 use Rattle.lists.proofs.Over.{over-more}
 use Rattle.market.specs.Faults.{Test, ◌draws◌, drawn, unless_drawn}
+use Rattle.market.specs.declared.fault.Fault.{Fault}
+use Rattle.market.specs.declared.fault.Fault.TheVariants.{UnknownSymbol, LogFull, BookFull}
 use Rattle.market.specs.Orders.{blank_order, event_of, order_tests}
 use Rattle.market.specs.Quotes.{row_at}
 use Rattle.market.specs.declared.order.OrderType.TheVariants.{MarketSell}
 use Rattle.market.specs.declared.order.Order.{Order}
 use Rattle.market.specs.declared.quote.Quote.{Quote}
-use Rattle.market.proofs.Faults.{order-numbered, append-none, none-drawn, test-holds, unless-none}
-use Rattle.exchange.specs.State.{room_of}
-use Rattle.exchange.specs.Insert.{taken_one, joined}
-use Rattle.exchange.specs.declared.state.Booked.{Booked}
+use Rattle.market.proofs.Faults.{append-none, none-drawn, test-holds, unless-none}
+use Rattle.exchange.specs.State.{room_of, waiting_row}
+use Rattle.exchange.specs.Insert.{taken_one, join_of}
 use Rattle.exchange.specs.declared.state.Counts.{Counts}
-use Rattle.exchange.proofs.Counting.{Sound, room-facts, Free}
+use Rattle.exchange.proofs.Counting.{Sound, room-facts, Free, join-book, join-counts}
 use Rattle.floats.specs.Lots.{is_lot}
 use Rattle.sender.proofs.Sounding.{counts-sound, lot-sound, both-sound}
 use Rattle.broker.specs.Lender.{broken}
 use Rattle.rules.specs.Money.{unless_zero}
 use Rattle.rules.specs.Sends.{send_tests_at}
 use Rattle.portfolio.specs.State.{money_of}
-use Rattle.broker.specs.Send.{event_for, taken_by, sent_one, sent_all, events_of, no_events, SendsFit}
-use Rattle.portfolio.specs.declared.state.Funds.{Funds}
+use Rattle.broker.specs.Send.{event_for, expecting, taken_by, sent_one, sent_all, events_of, no_events, SendsFit}
 use Rattle.portfolio.specs.declared.state.Portfolio.{Portfolio}
 use Rattle.broker.specs.declared.state.UistBroker.{UistBroker}
 use Rattle.market.specs.declared.order.OrderEvent.{OrderEvent}
-use Rattle.sender.specs.Sender.{event_at, pending_after}
+use Rattle.sender.specs.Sender.{event_at}
 use Rattle.sender.specs.declared.AtSymbol.{AtSymbol}
-use Rattle.sender.proofs.Events.{send-numbered}
 
 -- what a read past the end of an array of orders gives; no code reads there
 abbrev pub no_order : Order
@@ -56,8 +55,8 @@ module _ (b : UistBroker) (o : Order) where
   abbrev tests_on : Option Quote → Option Float → List Test
   tests_on quote holding = order_tests o ++ send_tests_at b.portfolio.funds.failed b.portfolio.funds.cash quote holding o ++ room_of b.exchange.counts
 
-  -- a symbol above 255 draws 1, whatever else is read
-  draws-1 : (l : List Test) → ltb o.symbol 256 ≡ false → drawn ((ltb 255 o.symbol draws 1) ∷ l) ≡ 1
+  -- a symbol above 255 draws UnknownSymbol, whatever else is read
+  draws-1 : (l : List Test) → ltb o.symbol 256 ≡ false → drawn ((ltb 255 o.symbol draws UnknownSymbol) ∷ l) ≡ Some UnknownSymbol
   draws-1 l h = let g = ltb-false o.symbol 256 h in test-holds _ _ l (lt-ltb 255 o.symbol (omega arith))
 
   same_by : (t : Bool) → ltb o.symbol 256 ≡ t →
@@ -71,23 +70,23 @@ module _ (b : UistBroker) (o : Order) where
   unfolding event_at event_for
   event_here = ap (event_of o) (same_by (ltb o.symbol 256) refl)
 
-  -- an order that draws no number passed 10 and 11
-  room-past : (quote : Option Quote) (holding : Option Float) → drawn (tests_on quote holding) ≡ 0 → drawn (room_of b.exchange.counts) ≡ 0
+  -- an order that draws nothing passed 10 and 11
+  room-past : (quote : Option Quote) (holding : Option Float) → drawn (tests_on quote holding) ≡ None → drawn (room_of b.exchange.counts) ≡ None
   room-past quote holding e =
       let f = b.portfolio.funds in
-      let a = append-none (order_tests o) _ (order-numbered o) e in
-      (append-none (send_tests_at f.failed f.cash quote holding o) (room_of b.exchange.counts) (send-numbered f.failed f.cash quote holding o) a.1).1
+      let a = append-none (order_tests o) _ e in
+      (append-none (send_tests_at f.failed f.cash quote holding o) (room_of b.exchange.counts) a.1).1
 
-  pub room-drawn : (event_for b o).fault ≡ 0 → drawn (room_of b.exchange.counts) ≡ 0
+  pub room-drawn : (event_for b o).fault ≡ None → drawn (room_of b.exchange.counts) ≡ None
   unfolding event_for
   room-drawn e = room-past ((money_of b.portfolio).latest o.symbol) ((money_of b.portfolio).held o.symbol) e
 
 -- ---- what sends keep of the counts
 
-module _ (P : Counts → Type 0) (one : (c : Counts) → P c → drawn (room_of c) ≡ 0 → P (taken_one c)) where
-  keeps-by : (b : UistBroker) (o : Order) (n : ℕ) → (n ≡ 0 → P (taken_one b.exchange.counts)) → P b.exchange.counts → P (unless_drawn n (taken_by b o) b).exchange.counts
-  keeps-by b o zero t p = t refl
-  keeps-by b o (suc n) t p = p
+module _ (P : Counts → Type 0) (one : (c : Counts) → P c → drawn (room_of c) ≡ None → P (taken_one c)) where
+  keeps-by : (b : UistBroker) (o : Order) (d : Option Fault) → (d ≡ None → P (taken_one b.exchange.counts)) → P b.exchange.counts → P (unless_drawn d (taken_by b o) b).exchange.counts
+  keeps-by b o None t p = t refl
+  keeps-by b o (Some f) t p = p
 
   pub sent-keeps : (b : UistBroker) (o : Order) → P b.exchange.counts → P (sent_one b o).exchange.counts
   unfolding sent_one
@@ -97,14 +96,14 @@ module _ (P : Counts → Type 0) (one : (c : Counts) → P c → drawn (room_of 
   sent-all-keeps b [] p = p
   sent-all-keeps b (o ∷ l) p = sent-all-keeps (sent_one b o) l (sent-keeps b o p)
 
-one-sound : (c : Counts) → Sound c → drawn (room_of c) ≡ 0 → Sound (taken_one c)
+one-sound : (c : Counts) → Sound c → drawn (room_of c) ≡ None → Sound (taken_one c)
 one-sound c s z =
     let r = room-facts c s z in
     record { together = omega (arith, r.places); bounded = omega (arith, r.rows); numbers = omega (arith, s.numbers); logs = omega (arith, s.logs) }
 
-lot-by : (b : UistBroker) (o : Order) (n : ℕ) → (unless_drawn n (taken_by b o) b).portfolio.lot ≡ b.portfolio.lot
-lot-by b o zero = refl
-lot-by b o (suc n) = refl
+lot-by : (b : UistBroker) (o : Order) (d : Option Fault) → (unless_drawn d (taken_by b o) b).portfolio.lot ≡ b.portfolio.lot
+lot-by b o None = refl
+lot-by b o (Some f) = refl
 
 -- a send keeps the lot
 sent-lot : (b : UistBroker) (o : Order) → (sent_one b o).portfolio.lot ≡ b.portfolio.lot
@@ -117,15 +116,15 @@ sent-unbroken b o h =
     both-sound (sent_one b o).portfolio.lot (sent-keeps Sound one-sound b o (counts-sound b.exchange.counts b.portfolio.lot h))
     (ap is_lot (sent-lot b o) ∙ lot-sound b.exchange.counts b.portfolio.lot h)
 
-pub one-fits : (c : Counts) → SendsFit c → drawn (room_of c) ≡ 0 → Free c
+pub one-fits : (c : Counts) → SendsFit c → drawn (room_of c) ≡ None → Free c
 one-fits c s e =
-    let a = none-drawn (eqb c.taken c.room) 9 _ e in
-    let b = none-drawn (eqb (c.resting + c.waits) 1024) 10 _ a.1 in
+    let a = none-drawn (eqb c.taken c.room) LogFull _ e in
+    let b = none-drawn (eqb (c.resting + c.waits) 1024) BookFull _ a.1 in
     let t = eqb-false c.taken c.room a.0 in
     let n = eqb-false (c.resting + c.waits) 1024 b.0 in
     record { place = omega (arith, s.places); row = omega (arith, s.rows) }
 
-taken-fits : (c : Counts) → SendsFit c → drawn (room_of c) ≡ 0 → SendsFit (taken_one c)
+taken-fits : (c : Counts) → SendsFit c → drawn (room_of c) ≡ None → SendsFit (taken_one c)
 taken-fits c s z = let r = one-fits c s z in record { places = omega (arith, r.place); rows = omega (arith, r.row) }
 
 pub sent_fits : (b : UistBroker) (o : Order) → SendsFit b.exchange.counts → SendsFit (sent_one b o).exchange.counts
@@ -134,24 +133,28 @@ sent_fits = sent-keeps SendsFit taken-fits
 pub sent-all-fits : (b : UistBroker) (l : List Order) → SendsFit b.exchange.counts → SendsFit (sent_all b l).exchange.counts
 sent-all-fits = sent-all-keeps SendsFit taken-fits
 
--- an order that draws no number has a place in the book and a row in the log
-pub fits_here : (b : UistBroker) (o : Order) → SendsFit b.exchange.counts → (event_for b o).fault ≡ 0 → Free b.exchange.counts
+-- an order that draws nothing has a place in the book and a row in the log
+pub fits_here : (b : UistBroker) (o : Order) → SendsFit b.exchange.counts → (event_for b o).fault ≡ None → Free b.exchange.counts
 fits_here b o s z = one-fits b.exchange.counts s (room-drawn b o z)
 
--- what a taken order's step stores
-pub takes : (b : UistBroker) (o : Order) (book : List Booked) (c : Counts) (p : Float) → (event_for b o).fault ≡ 0 →
-    book ≡ (joined b.exchange o).book → c ≡ (joined b.exchange o).counts → p ≡ pending_after o (get_or b.portfolio.funds.pending (o.symbol % 256) None) →
-    let f = b.portfolio.funds in
-    let g : Funds = record { holding = f.holding; pending = set f.pending (o.symbol % 256) (Some p); cash = f.cash; failed = f.failed } in
-    record { exchange = record { book = book; counts = c }; portfolio = record { latest = b.portfolio.latest; funds = g; costs = b.portfolio.costs; lot = b.portfolio.lot } } ≡ sent_one b o
+-- what a taken order's step stores, at the place that the counts give
+pub takes : (b : UistBroker) (o : Order) → SendsFit b.exchange.counts → (event_for b o).fault ≡ None →
+    let j = join_of b.exchange.counts in
+    record {
+      exchange = record { book = set b.exchange.book j.at (waiting_row o); counts = j.counts };
+      portfolio = record { latest = b.portfolio.latest; funds = expecting b.portfolio.funds o; costs = b.portfolio.costs; lot = b.portfolio.lot };
+    } ≡ sent_one b o
 unfolding sent_one
-takes b o book c p z j k m = rw (j, k, m) (unless-none (event_for b o).fault (taken_by b o) b z)
+takes b o s z =
+    let e = b.exchange in
+    let free = fits_here b o s z in
+    rw (join-book e (join_of e.counts) refl free o (waiting_row o) refl, join-counts e (join_of e.counts) refl free) (unless-none (event_for b o).fault (taken_by b o) b z)
 
 -- ---- the loops that send a list
 
 length-events : length no_events ≡ 256
 unfolding no_events
-length-events = length-replicate 256 (event_of blank_order 0)
+length-events = length-replicate 256 (event_of blank_order None)
 
 -- an order more is sent
 pub sent_next : (b : UistBroker) (l : List Order) (i : ℕ) (d : Order) → i < length l → sent_one (sent_all b (take i l)) (get_or l i d) ≡ sent_all b (take (i + 1) l)

@@ -1,4 +1,5 @@
 -- What a check finds and leaves. Assumes nothing.
+use Rattle.std.specs.declared.option.Option.TheVariants.{None}
 use Prim.Native.Nat.{ℕ, ◌≤◌}
 use native.Mathlib.Omega.{arith}
 use mathlib.Core.Bool.{true, false}
@@ -10,6 +11,8 @@ use Rattle.lists.specs.Lists.{over, keep}
 use Rattle.lists.proofs.Over.{take-over}
 use Rattle.market.specs.declared.trade.Trade.{Trade}
 use Rattle.market.specs.Faults.{drawn, first_drawn}
+use Rattle.market.specs.declared.fault.Fault.{Fault}
+use Rattle.market.specs.declared.fault.Fault.TheVariants.{Unsound}
 use Rattle.market.specs.Quotes.{row_at}
 use Rattle.market.specs.declared.quote.Quote.{Quote}
 use Rattle.market.specs.declared.table.Table.{Table}
@@ -31,20 +34,20 @@ use Rattle.broker.specs.declared.state.UistBroker.{UistBroker}
 
 -- ---- the check
 
--- a check that draws no number finds the counts sound and the tradable rows good
-pub number-none : (b : UistBroker) (n t f : ℕ) → check_fault b n t f ≡ 0 → (broken_of b.exchange.counts ≡ false) × (t ≡ 0)
+-- a check that draws nothing finds the counts sound and the tradable rows good
+pub none-drew : (b : UistBroker) (n : ℕ) (t f : Option Fault) → check_fault b n t f ≡ None → (broken_of b.exchange.counts ≡ false) × (t ≡ None)
 unfolding check_fault
-number-none b n t f e =
+none-drew b n t f e =
     let own = first-none (broker_log_fault b n) (first_drawn t f) e in
-    let sound = or_right (log_differs b.exchange.counts n) (broken b) (none-drawn (broken_for b n) 15 [] own.0).0 in
+    let sound = or_right (log_differs b.exchange.counts n) (broken b) (none-drawn (broken_for b n) Unsound [] own.0).0 in
     (counts-hold b.exchange.counts b.portfolio.lot sound, (first-none t f own.1).0)
 
--- the tick of a check that draws no number acts
-pub tick_acts : (b : UistBroker) (t : Table) (n f : ℕ) → check_fault b n t.fault f ≡ 0 → tick_of b.exchange t ≡ tick_done b.exchange (row_at t)
+-- the tick of a check that draws nothing acts
+pub tick_acts : (b : UistBroker) (t : Table) (n : ℕ) (f : Option Fault) → check_fault b n t.fault f ≡ None → tick_of b.exchange t ≡ tick_done b.exchange (row_at t)
 unfolding tick_of drawn
-tick_acts b t n f k = let s = number-none b n t.fault f k in rw (s.0, s.1)
+tick_acts b t n f k = let s = none-drew b n t.fault f k in rw (s.0, s.1)
 
-pub tick-trades : (b : UistBroker) (t : Table) (n f : ℕ) → check_fault b n t.fault f ≡ 0 → (tick_of b.exchange t).trades ≡ over (trades_of (row_at t) (resting_of b.exchange)) no_trades
+pub tick-trades : (b : UistBroker) (t : Table) (n : ℕ) (f : Option Fault) → check_fault b n t.fault f ≡ None → (tick_of b.exchange t).trades ≡ over (trades_of (row_at t) (resting_of b.exchange)) no_trades
 tick-trades b t n f k = ap (λ (x : Ticked). x.trades) (tick_acts b t n f k)
 
 -- after a tick no order waits, and no more rest than rested and waited: sends fit
@@ -64,8 +67,8 @@ ticked-fits e rows h =
       rows = s.bounded;
     }
 
-pub fits_ticked : (b : UistBroker) (t : Table) (n f : ℕ) → check_fault b n t.fault f ≡ 0 → SendsFit (ticked b.exchange (row_at t)).counts
-fits_ticked b t n f k = ticked-fits b.exchange (row_at t) (number-none b n t.fault f k).0
+pub fits_ticked : (b : UistBroker) (t : Table) (n : ℕ) (f : Option Fault) → check_fault b n t.fault f ≡ None → SendsFit (ticked b.exchange (row_at t)).counts
+fits_ticked b t n f k = ticked-fits b.exchange (row_at t) (none-drew b n t.fault f k).0
 
 -- the trades that a tick lists first
 pub listed_trades : (l : List Trade) → take (length l) (over l no_trades) ≡ l

@@ -1,7 +1,7 @@
 -- What a check leaves for an update's sends. Assumes nothing.
 use Prim.Native.Nat.{ℕ}
 use mathlib.Core.Bool.{Bool, true, false, cond}
-use mathlib.Core.Path.{◌≡◌}
+use mathlib.Core.Path.{◌≡◌, refl}
 use mathlib.Core.List.{List, [], ◌∷◌}
 use Rattle.std.specs.declared.option.Option.{Option}
 use Rattle.std.specs.declared.option.Option.TheVariants.{None, Some}
@@ -9,6 +9,7 @@ use lib.Ieee.{Float}
 use Rattle.lists.specs.Lists.{given}
 use Rattle.market.specs.Faults.{drawn, first_drawn}
 use Rattle.market.proofs.Faults.{first-none}
+use Rattle.market.specs.declared.fault.Fault.{Fault}
 use Rattle.market.specs.Orders.{zero64}
 use Rattle.market.specs.Quotes.{row_at}
 use Rattle.market.specs.declared.order.Order.{Order}
@@ -24,7 +25,7 @@ use Rattle.broker.specs.Update.{update_fault}
 use Rattle.broker.specs.declared.state.UistBroker.{UistBroker}
 use Rattle.broker.specs.declared.update.Lengths.{Lengths}
 use Rattle.broker.proofs.Sending.{sent-all-fits}
-use Rattle.broker.proofs.Settling.{number-none, ticked-fits}
+use Rattle.broker.proofs.Settling.{none-drew, ticked-fits}
 
 -- ---- a shortfall's rescue keeps the counts where sends fit
 
@@ -48,13 +49,20 @@ rescued-fits b p =
     let l = liquidated-fits b a p in
     either-fits _ b (below (cash_of b) zero64) (either-fits (liquidated_by b a) _ (succeeds (sales_of b a)) l l) p
 
--- ---- the check of an update that draws no number
+-- ---- what an update draws
 
--- neither number was drawn
-none_first : (n m : ℕ) → n ≡ 0 → m ≡ 0 → first_drawn n m ≡ 0
-none_first n m e f = rw e f
+-- the first of three that are drawn, however they are bracketed
+pub first_of : (x y z : Option Fault) → first_drawn (first_drawn x y) z ≡ first_drawn x (first_drawn y z)
+first_of None y z = refl
+first_of (Some f) y z = refl
 
-pub update-none : (b : UistBroker) (x : Lengths) (t f w : ℕ) → update_fault b x t f w ≡ 0 → check_fault b x.log t f ≡ 0
+-- ---- the check of an update that draws nothing
+
+-- neither was drawn
+none_first : (x y : Option Fault) → x ≡ None → y ≡ None → first_drawn x y ≡ None
+none_first x y e f = rw e f
+
+pub update-none : (b : UistBroker) (x : Lengths) (t f w : Option Fault) → update_fault b x t f w ≡ None → check_fault b x.log t f ≡ None
 unfolding update_fault check_fault
 update-none b x t f w z =
     let own = first-none (broker_log_fault b x.log) _ z in
@@ -62,17 +70,17 @@ update-none b x t f w z =
     let rows = first-none t _ short.1 in
     none_first _ _ own.0 (none_first _ _ rows.0 (first-none f w rows.1).0)
 
-checked-fits : (b : UistBroker) (t f : Table) (n : ℕ) → check_fault b n t.fault f.fault ≡ 0 → SendsFit (checked_by b t f).exchange.counts
+checked-fits : (b : UistBroker) (t f : Table) (n : ℕ) → check_fault b n t.fault f.fault ≡ None → SendsFit (checked_by b t f).exchange.counts
 unfolding checked_by
 checked-fits b t f n z =
-    rescued-fits (booked_by b t f) (ticked-fits b.exchange (row_at t) (number-none b n t.fault f.fault z).0)
+    rescued-fits (booked_by b t f) (ticked-fits b.exchange (row_at t) (none-drew b n t.fault f.fault z).0)
 
 -- ---- the update
 
 -- `update-none`, by a name that an attribute can cite
-pub check_draws_none : (b : UistBroker) (x : Lengths) (t f w : ℕ) → update_fault b x t f w ≡ 0 → check_fault b x.log t f ≡ 0
+pub check_draws_none : (b : UistBroker) (x : Lengths) (t f w : Option Fault) → update_fault b x t f w ≡ None → check_fault b x.log t f ≡ None
 check_draws_none = update-none
 
--- the sends of an update that draws no number before it acts
-pub sends_fit : (b : UistBroker) (t f : Table) (x : Lengths) (w : ℕ) → update_fault b x t.fault f.fault w ≡ 0 → SendsFit (checked_by b t f).exchange.counts
+-- the sends of an update that draws nothing before it acts
+pub sends_fit : (b : UistBroker) (t f : Table) (x : Lengths) (w : Option Fault) → update_fault b x t.fault f.fault w ≡ None → SendsFit (checked_by b t f).exchange.counts
 sends_fit b t f x w z = checked-fits b t f x.log (update-none b x t.fault f.fault w z)

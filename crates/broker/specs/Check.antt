@@ -1,7 +1,8 @@
 -- A check on the program's state. Definitions only.
-use Rattle.std.specs.Prelude.{ℕ, ◌≤◌, Bool, true, cond, ◌≡◌, Float, length}
+use Rattle.std.specs.Prelude.{ℕ, ◌≤◌, Bool, true, cond, ◌≡◌, Float, length, Option}
 use mathlib.Core.List.{foldl}
 use Rattle.market.specs.Faults.{unless_drawn, first_drawn}
+use Rattle.market.specs.declared.fault.Fault.{Fault}
 use Rattle.market.specs.Orders.{zero64}
 use Rattle.market.specs.Quotes.{row_at}
 use Rattle.market.specs.declared.table.Table.{Table}
@@ -45,7 +46,7 @@ pub record Rescues (b : UistBroker) (after : UistBroker) (queued : ℕ) : Type 0
 -- ---- the check
 
 -- 16, then the tradable rows, then the fetched ones
-unfoldable pub check_fault : UistBroker → ℕ → ℕ → ℕ → ℕ
+unfoldable pub check_fault : UistBroker → ℕ → Option Fault → Option Fault → Option Fault
 check_fault b n tradable fetched = first_drawn (broker_log_fault b n) (first_drawn tradable fetched)
 
 -- ticks on tradable, takes fetched rows as latest, books each trade
@@ -64,12 +65,12 @@ booked_by b t f =
 unfoldable pub checked_by : UistBroker → Table → Table → UistBroker
 checked_by b t f = rescued_by (booked_by b t f)
 
--- a check that draws no number acts; one that draws a number changes nothing. The trades are those of its tick, in the first `count` places
+-- a check that draws nothing acts; one that draws something changes nothing. The trades are those of its tick, in the first `count` places
 pub record Checks (b : UistBroker) (t f : Table) (n : ℕ) (r : Checked) : Type 0 where
   pub fault : r.fault ≡ check_fault b n t.fault f.fault
   pub broker : r.broker ≡ unless_drawn r.fault (checked_by b t f) b
   pub trades : r.trades ≡ (tick_of b.exchange t).trades
   pub count : r.count ≡ unless_drawn r.fault (length (trades_of (row_at t) (resting_of b.exchange))) 0
   pub first : r.first ≡ unless_drawn r.fault b.exchange.counts.logged 0
-  -- sells queued: left free, at most the number of held symbols once the trades are booked; 0 where a number is drawn
+  -- sells queued: left free, at most the number of held symbols once the trades are booked; 0 where something is drawn
   pub queued : r.queued ≤ unless_drawn r.fault (held_count (money_of (booked_by b t f).portfolio)) 0

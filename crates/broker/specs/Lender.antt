@@ -1,6 +1,8 @@
--- The lender's numbers at the broker, 16 and 15: document 01, "Who causes which number". Definitions only.
-use Rattle.std.specs.Prelude.{ℕ, Bool, ◌||◌, List, [], ◌∷◌, ltb, length}
+-- What the lender draws at the broker, 16 and 15: document 01, "Who causes which number". Definitions only.
+use Rattle.std.specs.Prelude.{ℕ, Bool, ◌||◌, List, [], ◌∷◌, ltb, length, Option}
 use Rattle.market.specs.Faults.{Test, ◌draws◌, drawn}
+use Rattle.market.specs.declared.fault.Fault.{Fault}
+use Rattle.market.specs.declared.fault.Fault.TheVariants.{ListTooShort, Unsound}
 use Rattle.market.specs.declared.trade.Trade.{Trade}
 use Rattle.exchange.specs.State.{log_differs}
 use Rattle.sender.specs.Sound.{broken_with}
@@ -15,21 +17,21 @@ abbrev pub broken_for : UistBroker → ℕ → Bool
 broken_for b n = log_differs b.exchange.counts n || broken b
 
 abbrev pub length_test : UistBroker → ℕ → Test
-length_test b n = broken_for b n draws 16
+length_test b n = broken_for b n draws Unsound
 
 abbrev pub log_test : UistBroker → List Trade → Test
 log_test b log = length_test b (length log)
 
-abbrev pub broker_fault : UistBroker → ℕ
-broker_fault b = drawn ((broken b draws 16) ∷ [])
+abbrev pub broker_fault : UistBroker → Option Fault
+broker_fault b = drawn ((broken b draws Unsound) ∷ [])
 
-abbrev pub broker_log_fault : UistBroker → ℕ → ℕ
+abbrev pub broker_log_fault : UistBroker → ℕ → Option Fault
 broker_log_fault b n = drawn (length_test b n ∷ [])
 
 -- 15: a list of `room` entries is lent for `rows` rows
 abbrev pub short_test : ℕ → ℕ → Test
-short_test rows room = ltb room rows draws 15
+short_test rows room = ltb room rows draws ListTooShort
 
 -- 16, then 15
 abbrev pub lender_tests : UistBroker → ℕ → ℕ → List Test
-lender_tests b rows room = (broken b draws 16) ∷ short_test rows room ∷ []
+lender_tests b rows room = (broken b draws Unsound) ∷ short_test rows room ∷ []

@@ -1,7 +1,8 @@
 -- The broker over lent lists: tables, weights and orders to be read; the log and the list for events to be written. Definitions only.
-use Rattle.std.specs.Prelude.{ℕ, List, ◌∷◌, ◌++◌, Float, length}
+use Rattle.std.specs.Prelude.{ℕ, List, ◌∷◌, ◌++◌, Float, length, Option, Result}
 use Rattle.lists.specs.Lists.{over, stored}
 use Rattle.market.specs.Faults.{Test, drawn, unless_drawn, first_drawn}
+use Rattle.market.specs.declared.fault.Fault.{Fault}
 use Rattle.market.specs.Orders.{zero64}
 use Rattle.market.specs.Quotes.{table_tests, table_of, row_at}
 use Rattle.market.specs.Weights.{weight_rows}
@@ -22,10 +23,9 @@ use Rattle.broker.specs.Check.{checked_by, booked_by}
 use Rattle.broker.specs.Update.{plan_after, weighed_by}
 use Rattle.broker.specs.Lender.{log_test, short_test, lender_tests}
 use Rattle.broker.specs.declared.state.UistBroker.{UistBroker}
-use Rattle.broker.specs.declared.build.Built.{Built}
 use Rattle.market.specs.declared.order.OrderEvent.{OrderEvent}
 
-abbrev pub build_for : TradeCosts → ℕ → List Quote → List Trade → Built
+abbrev pub build_for : TradeCosts → ℕ → List Quote → List Trade → Result UistBroker Fault
 build_for costs lot first log = build_of costs lot (table_of first) (length log)
 
 -- ---- a list of orders: 16, 15, then each order's own event
@@ -33,7 +33,7 @@ build_for costs lot first log = build_of costs lot (table_of first) (length log)
 abbrev pub send_list_tests : UistBroker → List Order → List OrderEvent → List Test
 send_list_tests b l e = lender_tests b (length l) (length e)
 
-unfoldable pub send_list_fault : UistBroker → List Order → List OrderEvent → ℕ
+unfoldable pub send_list_fault : UistBroker → List Order → List OrderEvent → Option Fault
 send_list_fault b l e = drawn (send_list_tests b l e)
 
 unfoldable pub send_list_broker : UistBroker → List Order → List OrderEvent → UistBroker
@@ -45,7 +45,7 @@ send_list_events b l e = unless_drawn (send_list_fault b l e) (over (events_of b
 
 -- ---- a check: 16, then the rows: tradable, fetched
 
-unfoldable pub check_for : UistBroker → List Quote → List Quote → List Trade → ℕ
+unfoldable pub check_for : UistBroker → List Quote → List Quote → List Trade → Option Fault
 check_for b t f log = drawn (log_test b log ∷ (table_tests 0 t ++ table_tests 0 f))
 
 abbrev pub trades_in : UistBroker → List Quote → List Trade
@@ -64,13 +64,13 @@ check_traded b t f log = unless_drawn (check_for b t f log) (length (trades_in b
 unfoldable pub check_log : UistBroker → List Quote → List Quote → List Trade → List Trade
 check_log b t f log = unless_drawn (check_for b t f log) (log_with b t log) log
 
--- what the free count of sells queued is at most: how many symbols are held once the trades are booked; 0 where a number is drawn
+-- what the free count of sells queued is at most: how many symbols are held once the trades are booked; 0 where something is drawn
 unfoldable pub held_after : UistBroker → List Quote → List Quote → List Trade → ℕ
 held_after b t f log = unless_drawn (check_for b t f log) (held_count (money_of (booked_by b (table_of t) (table_of f)).portfolio)) 0
 
 -- ---- an update: 16, 15, then the rows: tradable, fetched, weights; then 13, 18
 
-unfoldable pub update_for : UistBroker → List Quote → List Quote → List Weight → List OrderEvent → List Trade → ℕ
+unfoldable pub update_for : UistBroker → List Quote → List Quote → List Weight → List OrderEvent → List Trade → Option Fault
 update_for b t f w e log = drawn (log_test b log ∷ short_test (length w) (length e) ∷ ((table_tests 0 t ++ table_tests 0 f) ++ weight_rows 0 w))
 
 abbrev pub checked_on : UistBroker → List Quote → List Quote → UistBroker
@@ -79,7 +79,7 @@ checked_on b t f = checked_by b (table_of t) (table_of f)
 abbrev pub plan_on : UistBroker → List Quote → List Quote → List Weight → Plan
 plan_on b t f w = plan_after (checked_on b t f) w
 
-unfoldable pub update_fault_of : UistBroker → List Quote → List Quote → List Weight → List OrderEvent → List Trade → ℕ
+unfoldable pub update_fault_of : UistBroker → List Quote → List Quote → List Weight → List OrderEvent → List Trade → Option Fault
 update_fault_of b t f w e log = first_drawn (update_for b t f w e log) (plan_on b t f w).fault
 
 unfoldable pub update_broker : UistBroker → List Quote → List Quote → List Weight → List OrderEvent → List Trade → UistBroker

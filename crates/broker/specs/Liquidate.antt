@@ -4,6 +4,7 @@ use Rattle.std.specs.Prelude.{Option}
 use Rattle.std.specs.Float.Ieee.Scale.{finite}
 use Rattle.lists.specs.Lists.{given}
 use Rattle.market.specs.Faults.{Test, ◌draws◌}
+use Rattle.market.specs.declared.fault.Fault.TheVariants.{BadValue, WithdrawFailed, Unsound}
 use Rattle.market.specs.declared.order.Order.{Order}
 use Rattle.account.specs.declared.BrokerCashEvent.TheVariants.{WithdrawSuccess, WithdrawFailure, NotFinite, Broken}
 use Rattle.rules.specs.Amounts.{minus, below}
@@ -14,7 +15,8 @@ use Rattle.broker.specs.Lender.{broken}
 use Rattle.broker.specs.Send.{sent_all}
 use Rattle.broker.specs.Cash.{with_cash, cash_of, answered}
 use Rattle.broker.specs.declared.state.UistBroker.{UistBroker}
-use Rattle.broker.specs.declared.cash.CashMoved.{CashMoved}
+use Rattle.broker.specs.declared.state.Told.{Told}
+use Rattle.account.specs.declared.BrokerCashEvent.{BrokerCashEvent}
 
 -- failing debits the amount from cash unless the amount exceeds cash
 abbrev pub failing : UistBroker → Float → UistBroker
@@ -34,13 +36,13 @@ pub record Liquidates (b : UistBroker) (a : Float) (after : UistBroker) (queued 
   pub few : given queued 0 (λ n. n) ≤ held_count (money_of b.portfolio)
 
 -- 16, 2; success is answered, or 12
-unfoldable pub liquidate_of : UistBroker → Float → CashMoved
+unfoldable pub liquidate_of : UistBroker → Float → Told BrokerCashEvent
 liquidate_of b a =
     cond (broken b) (answered b (Broken a))
     (cond (finite a)
     (answered (liquidated_by b a) (cond (succeeds (sales_of b a)) (WithdrawSuccess a) (WithdrawFailure a)))
     (answered b (NotFinite a)))
 
--- its numbers: 16, 2, 12; not 4
+-- what it draws: 16, 2, 12; not 4
 abbrev pub liquidate_tests : UistBroker → Float → List Test
-liquidate_tests b a = (broken b draws 16) ∷ (not (finite a) draws 2) ∷ (not (succeeds (sales_of b a)) draws 12) ∷ []
+liquidate_tests b a = (broken b draws Unsound) ∷ (not (finite a) draws BadValue) ∷ (not (succeeds (sales_of b a)) draws WithdrawFailed) ∷ []

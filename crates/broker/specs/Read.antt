@@ -1,9 +1,10 @@
--- What a broker tells of itself, with the numbers of those who ask: 16; 1 for a symbol above 255; 2 for what is not finite. Definitions only.
+-- What a broker tells of itself, with what those who ask draw: 16; 1 for a symbol above 255; 2 for what is not finite. Definitions only.
 use Rattle.std.specs.Prelude.{ℕ, Bool, true, false, not, ◌||◌, ◌≡◌, [], ◌∷◌, ltb, Float}
 use Rattle.std.specs.Prelude.{Option, None, Some}
 use Rattle.std.specs.Float.Ieee.Scale.{finite}
-use Rattle.market.specs.Faults.{◌draws◌, drawn, unless_drawn}
-use Rattle.market.specs.Orders.{zero64}
+use Rattle.market.specs.Faults.{◌draws◌, drawn}
+use Rattle.market.specs.declared.fault.Fault.{Fault}
+use Rattle.market.specs.declared.fault.Fault.TheVariants.{UnknownSymbol, BadValue, Unsound}
 use Rattle.market.specs.declared.quote.Quote.{Quote}
 use Rattle.costs.specs.declared.Impact.{Impact}
 use Rattle.costs.specs.Costs.{trade_impact_total, trade_costs}
@@ -15,50 +16,28 @@ use Rattle.broker.specs.Lender.{broken}
 use Rattle.broker.specs.declared.state.UistBroker.{UistBroker}
 use Rattle.broker.specs.declared.read.BrokerState.{BrokerState}
 use Rattle.broker.specs.declared.read.BrokerState.TheVariants.{Ready, Failed}
-use Rattle.broker.specs.declared.read.QuoteRead.{QuoteRead}
-use Rattle.broker.specs.declared.read.AmountRead.{AmountRead}
-use Rattle.broker.specs.declared.read.FloatRead.{FloatRead}
-use Rattle.broker.specs.declared.read.CountRead.{CountRead}
-use Rattle.broker.specs.declared.read.StateRead.{StateRead}
-use Rattle.broker.specs.declared.read.ImpactRead.{ImpactRead}
+use Rattle.market.specs.declared.fault.After.{After}
 
--- ---- the numbers
+-- ---- what is drawn
 
-unfoldable pub symbol_fault : UistBroker → ℕ → ℕ
-symbol_fault b s = drawn ((broken b draws 16) ∷ (ltb 255 s draws 1) ∷ [])
+unfoldable pub symbol_fault : UistBroker → ℕ → Option Fault
+symbol_fault b s = drawn ((broken b draws Unsound) ∷ (ltb 255 s draws UnknownSymbol) ∷ [])
 
-unfoldable pub amounts_fault : UistBroker → Float → Float → ℕ
-amounts_fault b x y = drawn ((broken b draws 16) ∷ ((not (finite x) || not (finite y)) draws 2) ∷ [])
+unfoldable pub amounts_fault : UistBroker → Float → Float → Option Fault
+amounts_fault b x y = drawn ((broken b draws Unsound) ∷ ((not (finite x) || not (finite y)) draws BadValue) ∷ [])
 
--- ---- the answers, where n is the number drawn
-
-pub record ReadsQuote (q : Option Quote) (n : ℕ) (r : QuoteRead) : Type 0 where
-  pub quote : r.quote ≡ unless_drawn n q None
-  pub fault : r.fault ≡ n
-
-pub record ReadsAmount (x : Option Float) (n : ℕ) (r : AmountRead) : Type 0 where
-  pub amount : r.amount ≡ unless_drawn n x None
-  pub fault : r.fault ≡ n
-
-unfoldable pub read_float : Float → ℕ → FloatRead
-read_float x n = record { value = unless_drawn n x zero64; fault = n }
-
-unfoldable pub read_count : ℕ → ℕ → CountRead
-read_count k n = record { count = unless_drawn n k 0; fault = n }
+-- ---- the state, which is told with what is drawn too
 
 -- what a `BrokerState` says: is the broker Failed?
 abbrev pub failed_in : BrokerState → Bool
 failed_in Ready = false
 failed_in Failed = true
 
-pub record ReadsState (failed : Bool) (n : ℕ) (r : StateRead) : Type 0 where
+pub record ReadsState (failed : Bool) (d : Option Fault) (r : After BrokerState) : Type 0 where
   pub state : failed_in r.state ≡ failed
-  pub fault : r.fault ≡ n
+  pub fault : r.fault ≡ d
 
-unfoldable pub read_impact : Impact → ℕ → ImpactRead
-read_impact i n = record { impact = unless_drawn n i (record { budget = zero64; price = zero64 }); fault = n }
-
--- ---- what is read
+-- ---- what is read: it is answered where nothing is drawn
 
 abbrev pub quote_of : UistBroker → ℕ → Option Quote
 quote_of b s = (money_of b.portfolio).latest s

@@ -3,6 +3,8 @@ use Rattle.std.specs.Prelude.{ℕ, ◌+◌, ◌≤◌, ◌%◌, cond, get_or, se
 use Rattle.std.specs.Prelude.{None, Some}
 use mathlib.Core.List.{List, [], ◌∷◌, foldl}
 use Rattle.market.specs.Faults.{drawn, unless_drawn}
+use Rattle.market.specs.declared.fault.After.{After}
+use Rattle.market.specs.declared.fault.Fault.TheVariants.{Unsound}
 use Rattle.market.specs.Orders.{blank_order, event_of}
 use Rattle.market.specs.declared.order.Order.{Order}
 use Rattle.exchange.specs.State.{room_of}
@@ -17,8 +19,7 @@ use Rattle.sender.specs.Sender.{pending_after}
 use Rattle.broker.specs.Lender.{broken}
 use Rattle.broker.specs.declared.state.UistBroker.{UistBroker}
 use Rattle.market.specs.declared.order.OrderEvent.{OrderEvent}
-use Rattle.broker.specs.declared.send.Sent.{Sent}
-use Rattle.broker.specs.declared.send.BrokerDeleted.{BrokerDeleted}
+use Rattle.broker.specs.declared.state.Told.{Told}
 
 -- an order's event: 1, 2, 4 to 9 by the rules on what the broker holds, 10 and 11 by the exchange's counts
 unfoldable pub event_for : UistBroker → Order → OrderEvent
@@ -58,7 +59,7 @@ events_of b [] = []
 events_of b (o ∷ l) = event_for b o ∷ events_of (sent_one b o) l
 
 unfoldable pub no_events : List OrderEvent
-no_events = replicate 256 (event_of blank_order 0)
+no_events = replicate 256 (event_of blank_order None)
 
 -- what counts must obey for sends to be booked in place: a tick keeps it, where it need not keep all that 16 asks
 pub record SendsFit (c : Counts) : Type 0 where
@@ -66,23 +67,23 @@ pub record SendsFit (c : Counts) : Type 0 where
   pub rows : c.taken ≤ c.room
 
 -- 16, then the order's own event
-unfoldable pub send_of : UistBroker → Order → Sent
+unfoldable pub send_of : UistBroker → Order → Told OrderEvent
 send_of b o =
     cond (broken b)
-    (record { broker = b; event = event_of o 16 })
+    (record { broker = b; event = event_of o (Some Unsound) })
     (record { broker = sent_one b o; event = event_for b o })
 
 -- direct insertions and deletions do not touch pending; 16, then what the exchange makes of them
-unfoldable pub insert_of : UistBroker → Order → Sent
+unfoldable pub insert_of : UistBroker → Order → Told OrderEvent
 insert_of b o =
     let r = Exchange.insert_of b.exchange o in
     cond (broken b)
-    (record { broker = b; event = event_of o 16 })
-    (record { broker = record { exchange = r.exchange; portfolio = b.portfolio }; event = event_of o r.fault })
+    (record { broker = b; event = event_of o (Some Unsound) })
+    (record { broker = record { exchange = r.state; portfolio = b.portfolio }; event = event_of o r.fault })
 
-unfoldable pub delete_of : UistBroker → ℕ → BrokerDeleted
+unfoldable pub delete_of : UistBroker → ℕ → After UistBroker
 delete_of b n =
     let r = Deletion.delete_of b.exchange n in
     cond (broken b)
-    (record { broker = b; fault = 16 })
-    (record { broker = record { exchange = r.exchange; portfolio = b.portfolio }; fault = r.fault })
+    (record { state = b; fault = Some Unsound })
+    (record { state = record { exchange = r.state; portfolio = b.portfolio }; fault = r.fault })

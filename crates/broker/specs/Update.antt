@@ -1,7 +1,8 @@
 -- An update on the program's state: check, walk, send. Definitions only.
-use Rattle.std.specs.Prelude.{ℕ, ◌≡◌, List, [], ◌∷◌, length}
+use Rattle.std.specs.Prelude.{◌≡◌, List, [], ◌∷◌, length, Option}
 use Rattle.lists.specs.Lists.{over}
 use Rattle.market.specs.Faults.{drawn, unless_drawn, first_drawn}
+use Rattle.market.specs.declared.fault.Fault.{Fault}
 use Rattle.market.specs.Orders.{zero64}
 use Rattle.market.specs.Quotes.{row_at}
 use Rattle.market.specs.declared.table.Table.{Table}
@@ -21,27 +22,27 @@ use Rattle.broker.specs.declared.update.Lengths.{Lengths}
 use Rattle.broker.specs.declared.update.Updated.{Updated}
 
 -- 16, 15, then the rows: tradable, fetched, weights
-unfoldable pub update_fault : UistBroker → Lengths → ℕ → ℕ → ℕ → ℕ
+unfoldable pub update_fault : UistBroker → Lengths → Option Fault → Option Fault → Option Fault → Option Fault
 update_fault b x tradable fetched weights =
     first_drawn (broker_log_fault b x.log)
     (first_drawn (drawn (short_test x.weights x.events ∷ []))
     (first_drawn tradable (first_drawn fetched weights)))
 
--- the orders of the weights after the check, and the number drawn
+-- the orders of the weights after the check, and what they draw
 abbrev pub plan_after : UistBroker → List Weight → Plan
 plan_after b w = plan_of (money_of b.portfolio) w
 
 unfoldable pub weighed_by : UistBroker → List Weight → UistBroker
 weighed_by b w = sent_all b (plan_after b w).orders
 
--- n is the number drawn before it acts; then the plan's, with which the check stands
-pub record Updates (b : UistBroker) (t f : Table) (w : Weights) (x : Lengths) (n : ℕ) (r : Updated) : Type 0 where
-  pub before : n ≡ update_fault b x t.fault f.fault w.fault
-  pub fault : r.fault ≡ first_drawn n (plan_after (checked_by b t f) (weighed w)).fault
-  pub broker : r.broker ≡ unless_drawn n (weighed_by (checked_by b t f) (weighed w)) b
+-- d is what is drawn before it acts; then what the plan draws, with which the check stands
+pub record Updates (b : UistBroker) (t f : Table) (w : Weights) (x : Lengths) (d : Option Fault) (r : Updated) : Type 0 where
+  pub before : d ≡ update_fault b x t.fault f.fault w.fault
+  pub fault : r.fault ≡ first_drawn d (plan_after (checked_by b t f) (weighed w)).fault
+  pub broker : r.broker ≡ unless_drawn d (weighed_by (checked_by b t f) (weighed w)) b
   pub trades : r.trades ≡ (tick_of b.exchange t).trades
-  pub count : r.count ≡ unless_drawn n (length (trades_of (row_at t) (resting_of b.exchange))) 0
-  pub first : r.first ≡ unless_drawn n b.exchange.counts.logged 0
-  pub events : r.events ≡ unless_drawn n (over (events_of (checked_by b t f) (plan_after (checked_by b t f) (weighed w)).orders) no_events) no_events
-  pub sent : r.sent ≡ unless_drawn n (length (plan_after (checked_by b t f) (weighed w)).orders) 0
-  pub total : r.total ≡ unless_drawn n (unless_drawn (plan_after (checked_by b t f) (weighed w)).fault (total_value (money_of (checked_by b t f).portfolio)) zero64) zero64
+  pub count : r.count ≡ unless_drawn d (length (trades_of (row_at t) (resting_of b.exchange))) 0
+  pub first : r.first ≡ unless_drawn d b.exchange.counts.logged 0
+  pub events : r.events ≡ unless_drawn d (over (events_of (checked_by b t f) (plan_after (checked_by b t f) (weighed w)).orders) no_events) no_events
+  pub sent : r.sent ≡ unless_drawn d (length (plan_after (checked_by b t f) (weighed w)).orders) 0
+  pub total : r.total ≡ unless_drawn d (unless_drawn (plan_after (checked_by b t f) (weighed w)).fault (total_value (money_of (checked_by b t f).portfolio)) zero64) zero64

@@ -1,15 +1,9 @@
 // Cash in and out of a broker.
 ghost use Rattle.std.specs.Prelude.{◌≡◌};
-ghost use Rattle.broker.specs.Cash.{amount_refusal, cash_refusal, with_cash, deposit_of, withdraw_of, deposit_tests, withdraw_tests, MovesCash};
+ghost use Rattle.broker.specs.Cash.{answered, amount_refusal, cash_refusal, MovesBy, deposit_of, withdraw_of, deposit_tests, withdraw_tests, MovesCash};
 
-use crate::state::UistBroker;
+use crate::state::{Told, UistBroker};
 use account::{BrokerCashEvent, Moved};
-
-#[derive(Clone, Copy)]
-pub struct CashMoved {
-    pub broker: UistBroker,
-    pub event: BrokerCashEvent,
-}
 
 impl UistBroker {
     // The refusal of a call about an amount, 16 or 2.
@@ -17,7 +11,7 @@ impl UistBroker {
     pub(crate) fn amount_refusal(&self, amount: f64) -> Option<BrokerCashEvent>
         ensures { result ≡ amount_refusal self.now amount }
     {
-        if self.fault() != 0 {
+        if self.fault().is_some() {
             return Some(BrokerCashEvent::Broken(amount));
         }
         if !floats::finite(amount) {
@@ -39,40 +33,37 @@ impl UistBroker {
         }
     }
 
-    // Takes the cash that a move leaves, and answers its event.
-    fn take(&mut self, moved: Moved) -> BrokerCashEvent
-        ensures broker { self.new ≡ with_cash self.old moved.cash }
-        ensures event { result ≡ moved.event }
+    // Moves cash, or is refused with 16, 2 or 4; `by` says what becomes of the cash. It works in place,
+    // since a broker by value would be copied.
+    fn move_cash<M: FnOnce(f64, f64) -> Moved>(&mut self, amount: f64, by: M) -> BrokerCashEvent
+        requires { M.IsAlwaysCallable by }
+        ensures { MovesBy self.old amount (M.post by) (answered self.new result) }
     {
+        if let Some(refusal) = self.cash_refusal(amount) {
+            return refusal;
+        }
+        let moved = by(self.portfolio.funds.cash, amount);
         self.portfolio.funds.cash = moved.cash;
         moved.event
     }
 
     #[tactic(auto, unfolding(market::specs::Faults::drawn, crate::specs::Cash::cash_refusal, crate::specs::Cash::cash_moved, crate::specs::Cash::deposit_of, account::specs::Account::credit_of))]
-    pub fn deposit_cash(mut self, cash: f64) -> CashMoved
+    pub fn deposit_cash(mut self, cash: f64) -> Told<BrokerCashEvent>
         ensures { MovesCash (deposit_of self cash) (deposit_tests self cash) cash result }
     {
-        let held = self.portfolio.funds.cash;
-        let event = match self.cash_refusal(cash) {
-            Some(refusal) => refusal,
-            None => self.take(account::credited(held, cash)),
-        };
-        CashMoved {
+        let event = self.move_cash(cash, account::credited);
+        Told {
             broker: self,
             event,
         }
     }
 
     #[tactic(auto, unfolding(market::specs::Faults::drawn, crate::specs::Cash::cash_refusal, crate::specs::Cash::cash_moved, crate::specs::Cash::withdraw_of, account::specs::Account::debit_of))]
-    pub fn withdraw_cash(mut self, cash: f64) -> CashMoved
+    pub fn withdraw_cash(mut self, cash: f64) -> Told<BrokerCashEvent>
         ensures { MovesCash (withdraw_of self cash) (withdraw_tests self cash) cash result }
     {
-        let held = self.portfolio.funds.cash;
-        let event = match self.cash_refusal(cash) {
-            Some(refusal) => refusal,
-            None => self.take(account::debited(held, cash)),
-        };
-        CashMoved {
+        let event = self.move_cash(cash, account::debited);
+        Told {
             broker: self,
             event,
         }

@@ -3,16 +3,16 @@ ghost use Rattle.std.specs.Prelude.{◌≡◌};
 ghost use Rattle.broker.specs.Send.{SendsFit};
 ghost use Rattle.broker.specs.Check.{check_fault, Rescues, Checks};
 
-use crate::lender::unless_drawn;
 use crate::state::UistBroker;
-use market::fault;
+use market::fault::{Fault, unless_drawn};
 use market::table::ReadTable;
 use market::trade::Trade;
 use portfolio::booking;
 
 // What a check comes to: the new state, the trades in the first `count` places, the log's row where
-// the first of them goes, how many sells it queued, and the number drawn, or 0. The trades stand in
-// fixed memory.
+// the first of them goes, how many sells it queued, and what was drawn. The trades stand in fixed
+// memory. A check that is refused answers the state too, so the refusal stands beside it, and this is
+// no `Result`.
 #[derive(Clone, Copy)]
 pub struct Checked {
     pub broker: UistBroker,
@@ -20,7 +20,7 @@ pub struct Checked {
     pub count: usize,
     pub first: usize,
     pub queued: usize,
-    pub fault: u32,
+    pub fault: Option<Fault>,
 }
 
 impl UistBroker {
@@ -44,15 +44,19 @@ impl UistBroker {
         }
     }
 
-    // 16, then the numbers of the rows, or 0.
+    // 16, then what the rows draw.
     #[tactic(auto, unfolding(crate::specs::Check::check_fault))]
-    fn check_fault(&self, tradable: &ReadTable, fetched: &ReadTable, log_length: usize) -> u32
+    fn check_fault(
+        &self,
+        tradable: &ReadTable,
+        fetched: &ReadTable,
+        log_length: usize,
+    ) -> Option<Fault>
         ensures { result ≡ check_fault self.now log_length tradable.now.table.fault fetched.now.table.fault }
     {
-        fault::first(
-            self.fault_for(log_length),
-            fault::first(tradable.fault(), fetched.fault()),
-        )
+        self.fault_for(log_length)
+            .or(tradable.fault())
+            .or(fetched.fault())
     }
 
     // A check on tables that were read, for a log of this length.
@@ -64,7 +68,7 @@ impl UistBroker {
         let x = self.exchange.tick(tradable);
         let trades = x.trades;
         let mut queued = 0;
-        if fault == 0 {
+        if fault.is_none() {
             let portfolio = &mut self.portfolio;
             portfolio.latest = booking::merge(portfolio.latest, fetched.table());
             portfolio.funds = booking::settle(portfolio.funds, &trades[..x.count.min(1024)]);

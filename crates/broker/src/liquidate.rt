@@ -3,8 +3,7 @@ ghost use Rattle.broker.specs.Send.{SendsFit};
 ghost use Rattle.broker.specs.Liquidate.{Liquidates, liquidate_of, liquidate_tests};
 ghost use Rattle.broker.specs.Cash.{MovesCash};
 
-use crate::cash::CashMoved;
-use crate::state::UistBroker;
+use crate::state::{Told, UistBroker};
 use account::BrokerCashEvent;
 use portfolio::liquidate;
 
@@ -27,7 +26,7 @@ impl UistBroker {
     }
 
     #[tactic(auto, unfolding(market::specs::Faults::drawn, crate::specs::Cash::amount_refusal, crate::specs::Liquidate::liquidate_of))]
-    pub fn withdraw_cash_with_liquidation(mut self, cash: f64) -> CashMoved
+    pub fn withdraw_cash_with_liquidation(mut self, cash: f64) -> Told<BrokerCashEvent>
         ensures { MovesCash (liquidate_of self cash) (liquidate_tests self cash) cash result }
     {
         let event = match self.amount_refusal(cash) {
@@ -35,7 +34,7 @@ impl UistBroker {
             None if self.liquidate(cash).is_some() => BrokerCashEvent::WithdrawSuccess(cash),
             None => BrokerCashEvent::WithdrawFailure(cash),
         };
-        CashMoved {
+        Told {
             broker: self,
             event,
         }

@@ -3,31 +3,18 @@ ghost use Rattle.std.specs.Prelude.{◌≡◌, ◌≤◌, length};
 ghost use Rattle.lists.specs.Lists.{over};
 ghost use Rattle.broker.specs.Send.{no_events, SendsFit, event_for, sent_one, sent_all, events_of, send_of, insert_of, delete_of};
 
-use crate::state::UistBroker;
+use crate::state::{Told, UistBroker};
 use exchange::state::Booked;
+use market::fault::After;
 use market::order::{Order, OrderEvent};
 use sender;
 use sender::AtSymbol;
-
-#[derive(Clone, Copy)]
-pub struct Sent {
-    pub broker: UistBroker,
-    pub event: OrderEvent,
-}
-
-// The new state, and 16 or 0.
-#[derive(Clone, Copy)]
-pub struct BrokerDeleted {
-    pub broker: UistBroker,
-    pub fault: u32,
-}
 
 #[tactic(auto, unfolding(crate::specs::Send::no_events))]
 pub(crate) fn no_events() -> [OrderEvent; 256]
     ensures { result ≡ no_events }
 {
-    let o = Order::blank();
-    let blank = OrderEvent { order: o, fault: 0 };
+    let blank = sender::event(Order::blank(), None);
     [blank; 256]
 }
 
@@ -36,7 +23,7 @@ impl UistBroker {
     // place and is inlined, since a broker by value would be copied at each order, and at a call that
     // is not inlined once more. `SendsFit` is asked for and is no type's invariant: whoever made a
     // value of that type would have to prove it just the same.
-    #[tactic(auto, using(crate::proofs::Sending::event_here, crate::proofs::Sending::fits_here), unfolding(crate::specs::Send::sent_one, exchange::specs::Insert::join_of))]
+    #[tactic(auto, using(crate::proofs::Sending::event_here, crate::proofs::Sending::fits_here, crate::proofs::Sending::takes), unfolding(crate::specs::Send::sent_one, exchange::specs::Insert::join_of))]
     #[inline(always)]
     fn send_one(&mut self, o: Order) -> OrderEvent
         requires { SendsFit self.old.exchange.counts }
@@ -52,7 +39,7 @@ impl UistBroker {
         let cash = self.portfolio.funds.cash;
         let counts = self.exchange.counts;
         let e = sender::send_event(o, failed, cash, x, counts);
-        if e.fault != 0 {
+        if e.fault.is_some() {
             return e;
         }
         let join = counts.join();
@@ -87,7 +74,7 @@ impl UistBroker {
     {
         let mut taken = 0;
         for o in orders {
-            if self.send_one(*o).fault == 0 {
+            if self.send_one(*o).fault.is_none() {
                 taken += 1;
             }
         }
@@ -95,16 +82,16 @@ impl UistBroker {
     }
 
     #[tactic(auto, unfolding(market::specs::Faults::drawn, crate::specs::Send::send_of))]
-    pub fn send_order(mut self, order: Order) -> Sent
+    pub fn send_order(mut self, order: Order) -> Told<OrderEvent>
         ensures { result ≡ send_of self order }
     {
         let fault = self.fault();
-        let event = if fault != 0 {
+        let event = if fault.is_some() {
             sender::event(order, fault)
         } else {
             self.send_one(order)
         };
-        Sent {
+        Told {
             broker: self,
             event,
         }
@@ -112,20 +99,20 @@ impl UistBroker {
 
     // A direct insertion: pending is kept.
     #[tactic(auto, unfolding(market::specs::Faults::drawn, crate::specs::Send::insert_of))]
-    pub fn insert_order(self, order: Order) -> Sent
+    pub fn insert_order(self, order: Order) -> Told<OrderEvent>
         ensures { result ≡ insert_of self order }
     {
         let fault = self.fault();
-        if fault != 0 {
-            return Sent {
+        if fault.is_some() {
+            return Told {
                 broker: self,
                 event: sender::event(order, fault),
             };
         }
         let inserted = self.exchange.insert_order(order);
-        Sent {
+        Told {
             broker: UistBroker {
-                exchange: inserted.exchange,
+                exchange: inserted.state,
                 ..self
             },
             event: sender::event(order, inserted.fault),
@@ -133,20 +120,17 @@ impl UistBroker {
     }
 
     #[tactic(auto, unfolding(market::specs::Faults::drawn, crate::specs::Send::delete_of))]
-    pub fn delete_order(self, order_id: u64) -> BrokerDeleted
+    pub fn delete_order(self, order_id: u64) -> After<UistBroker>
         ensures { result ≡ delete_of self order_id }
     {
         let fault = self.fault();
-        if fault != 0 {
-            return BrokerDeleted {
-                broker: self,
-                fault,
-            };
+        if fault.is_some() {
+            return After { state: self, fault };
         }
         let deleted = self.exchange.delete_order(order_id);
-        BrokerDeleted {
-            broker: UistBroker {
-                exchange: deleted.exchange,
+        After {
+            state: UistBroker {
+                exchange: deleted.state,
                 ..self
             },
             fault: deleted.fault,

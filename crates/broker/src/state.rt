@@ -8,6 +8,13 @@ pub struct UistBroker {
     pub portfolio: Portfolio,
 }
 
+// The broker after a call, and the event that tells of the call: of an order, or of cash.
+#[derive(Clone, Copy)]
+pub struct Told<E> {
+    pub broker: UistBroker,
+    pub event: E,
+}
+
 impl UistBroker {
     // What a check adds to a shortfall before it liquidates.
     pub const BUFFER: f64 = 1000.0;

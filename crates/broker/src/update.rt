@@ -2,14 +2,15 @@
 ghost use Rattle.std.specs.Prelude.{◌≡◌};
 ghost use Rattle.broker.specs.Update.{update_fault, Updates};
 
-use crate::lender::{list_fault, unless_drawn};
+use crate::lender::list_fault;
 use crate::send;
 use crate::state::UistBroker;
-use market::fault;
+use market::fault::Fault;
 use market::order::OrderEvent;
 use market::table::ReadTable;
 use market::trade::Trade;
 use market::weight::Weights;
+use portfolio::list::OrderList;
 
 // How long the lent lists are: the log, the list for events, and the rows of weights.
 #[derive(Clone, Copy)]
@@ -20,8 +21,9 @@ pub struct Lengths {
 }
 
 // What an update comes to: the new state; the trades in the first `count` places, and the log's row
-// where the first of them goes; the events in the first `sent` places; the total value; and the
-// number drawn, or 0. With 13 or 18 the check stands. Trades and events stand in fixed memory.
+// where the first of them goes; the events in the first `sent` places; the total value; and
+// what was drawn. With 13 or 18 the check stands. Trades and events stand in fixed memory. An update
+// that is refused answers the state too, so the refusal stands beside it, and this is no `Result`.
 #[derive(Clone, Copy)]
 pub struct Updated {
     pub broker: UistBroker,
@@ -31,35 +33,32 @@ pub struct Updated {
     pub events: [OrderEvent; 256],
     pub sent: usize,
     pub total: f64,
-    pub fault: u32,
+    pub fault: Option<Fault>,
 }
 
 impl UistBroker {
-    // 16, 15, then the numbers of the rows, or 0.
-    #[tactic(auto, unfolding(crate::specs::Update::update_fault))]
+    // 16, 15, then what the rows draw.
+    #[tactic(auto, using(crate::proofs::Updating::first_of), unfolding(crate::specs::Update::update_fault))]
     fn update_fault(
         &self,
         tradable: &ReadTable,
         fetched: &ReadTable,
         weights: &Weights,
         x: Lengths,
-    ) -> u32
+    ) -> Option<Fault>
         ensures { result ≡ update_fault self.now x tradable.now.table.fault fetched.now.table.fault weights.now.fault }
     {
-        let rows = fault::first(
-            tradable.fault(),
-            fault::first(fetched.fault(), weights.fault()),
-        );
-        fault::first(
-            self.fault_for(x.log),
-            fault::first(list_fault(x.weights, x.events), rows),
-        )
+        self.fault_for(x.log)
+            .or(list_fault(x.weights, x.events))
+            .or(tradable.fault())
+            .or(fetched.fault())
+            .or(weights.fault())
     }
 
     // An update on tables and weights that were read. One that is refused changes nothing, and its
     // trades are those of the check's tick. Past the refusals there is one way through, with 13, 18 or
     // neither: a return between would cost copies of all the state.
-    #[tactic(auto, using(crate::proofs::Updating::check_draws_none, crate::proofs::Updating::sends_fit), unfolding(crate::specs::Update::weighed_by))]
+    #[tactic(auto, using(crate::proofs::Updating::check_draws_none, crate::proofs::Updating::sends_fit))]
     pub fn update(
         self,
         tradable: ReadTable,
@@ -72,7 +71,7 @@ impl UistBroker {
         let fault = self.update_fault(&tradable, &fetched, &weights, x);
         let mut checked = self.check(tradable, fetched, x.log);
         let trades = checked.trades;
-        if fault != 0 {
+        if fault.is_some() {
             let events = send::no_events();
             return Updated {
                 broker: self,
@@ -86,9 +85,11 @@ impl UistBroker {
             };
         }
         let portfolio = &checked.broker.portfolio;
-        let plan = portfolio.diff_against_target_weights(&weights);
-        let total = unless_drawn(plan.fault, portfolio.get_total_value(), 0.0);
-        let orders = plan.list.orders();
+        let (list, total, fault) = match portfolio.diff_against_target_weights(&weights) {
+            Ok(list) => (list, portfolio.get_total_value(), None),
+            Err(fault) => (OrderList::none(), 0.0, Some(fault)),
+        };
+        let orders = list.orders();
         let events = checked.broker.send_all(orders);
         Updated {
             broker: checked.broker,
@@ -98,7 +99,7 @@ impl UistBroker {
             events,
             sent: orders.len(),
             total,
-            fault: plan.fault,
+            fault,
         }
     }
 }

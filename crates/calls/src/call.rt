@@ -23,6 +23,7 @@ pub struct Call {
     pub symbol: u32,
     pub amount: f64,
     pub second: f64,
+    // The side of a call that names one; nothing else goes with it.
     pub is_buy: bool,
     pub order: Order,
     pub room: usize,
@@ -68,34 +69,6 @@ pub fn plain(verb: Verb) -> Call
     }
 }
 
-// Is there no word at or after `at`?
-fn is_end(line: &[u8], at: usize) -> bool
-    ensures { result ≡ is_empty (words_of (drop at line.now)) }
-{
-    let (w, _) = word::first_at(line, at);
-    w.is_empty()
-}
-
-// The word at or after `at` where it is the line's last, else an empty one.
-fn only_at(line: &[u8], at: usize) -> &[u8]
-    ensures { result.now ≡ only_of (words_of (drop at line.now)) }
-{
-    let (w, next) = word::first_at(line, at);
-    if is_end(line, next) { w } else { &[] }
-}
-
-// A new broker's lot, which is 1 where the word is none, and where the words behind it are looked for.
-fn lot_at(line: &[u8], at: usize) -> (u32, usize)
-    ensures lot { result.0 ≡ (lot_at (words_of (drop at line.now))).lot }
-    ensures rest { words_of (drop result.1 line.now) ≡ (lot_at (words_of (drop at line.now))).behind }
-{
-    let (w, next) = word::first_at(line, at);
-    match rows::lot(w) {
-        Some(n) => (n, next),
-        None => (1, at),
-    }
-}
-
 // The length of a lent list, at most 1,024.
 fn room_of(w: &[u8]) -> Option<usize>
     ensures { result ≡ room_of w.now }
@@ -107,229 +80,271 @@ fn room_of(w: &[u8]) -> Option<usize>
     Some(n as usize)
 }
 
-// The call with one word: a verb alone.
-fn alone(line: &[u8], at: usize, verb: Verb) -> Option<Call>
-    ensures { heard_or line.now result ≡ said_alone verb (words_of (drop at line.now)) }
-{
-    is_end(line, at).then_some(plain(verb))
+// The words of a line from a place on.
+#[derive(Clone, Copy)]
+struct Words<'a> {
+    line: &'a [u8],
+    at: usize,
 }
 
-fn with_whole(line: &[u8], at: usize, verb: Verb) -> Option<Call>
-    ensures { heard_or line.now result ≡ said_whole verb (words_of (drop at line.now)) }
-{
-    let whole = number::whole(only_at(line, at))?;
-    Some(Call {
-        whole,
-        ..plain(verb)
-    })
-}
-
-fn with_log(line: &[u8], at: usize, verb: Verb) -> Option<Call>
-    ensures { heard_or line.now result ≡ said_log verb (words_of (drop at line.now)) }
-{
-    let log = number::whole(only_at(line, at))?;
-    Some(Call { log, ..plain(verb) })
-}
-
-fn with_symbol(line: &[u8], at: usize, verb: Verb) -> Option<Call>
-    ensures { heard_or line.now result ≡ said_symbol verb (words_of (drop at line.now)) }
-{
-    let symbol = number::symbol(only_at(line, at))?;
-    Some(Call {
-        symbol,
-        ..plain(verb)
-    })
-}
-
-fn with_amount(line: &[u8], at: usize, verb: Verb) -> Option<Call>
-    ensures { heard_or line.now result ≡ said_amount verb (words_of (drop at line.now)) }
-{
-    let amount = number::float(only_at(line, at))?;
-    Some(Call {
-        amount,
-        ..plain(verb)
-    })
-}
-
-fn with_order(line: &[u8], at: usize, verb: Verb) -> Option<Call>
-    ensures { heard_or line.now result ≡ said_order verb (words_of (drop at line.now)) }
-{
-    let order = rows::order(only_at(line, at))?;
-    Some(Call {
-        order,
-        ..plain(verb)
-    })
-}
-
-fn with_room(line: &[u8], at: usize, verb: Verb) -> Option<Call>
-    ensures { heard_or line.now result ≡ said_room verb (words_of (drop at line.now)) }
-{
-    let room = room_of(only_at(line, at))?;
-    Some(Call {
-        room,
-        ..plain(verb)
-    })
-}
-
-// QUANTITY VALUE
-fn with_quantity(line: &[u8], at: usize, verb: Verb) -> Option<Call>
-    ensures { heard_or line.now result ≡ said_quantity verb (words_of (drop at line.now)) }
-{
-    let (w, next) = word::first_at(line, at);
-    let amount = number::float(w)?;
-    let second = number::float(only_at(line, next))?;
-    Some(Call {
-        amount,
-        second,
-        ..plain(verb)
-    })
-}
-
-// BUDGET PRICE, and `buy` or `sell`
-fn with_side(line: &[u8], at: usize, verb: Verb) -> Option<Call>
-    ensures { heard_or line.now result ≡ said_side verb (words_of (drop at line.now)) }
-{
-    let (w, next) = word::first_at(line, at);
-    let amount = number::float(w)?;
-    let (w, next) = word::first_at(line, next);
-    let second = number::float(w)?;
-    let side = only_at(line, next);
-    let is_buy = word::is_name(side, b"buy");
-    if !(is_buy | word::is_name(side, b"sell")) {
-        return None;
+impl<'a> Words<'a> {
+    // Is there no word?
+    fn is_end(self) -> bool
+        ensures { result ≡ is_empty (words_of (drop self.entry.at self.entry.line.now)) }
+    {
+        let (w, _) = word::first_at(self.line, self.at);
+        w.is_empty()
     }
-    Some(Call {
-        amount,
-        second,
-        is_buy,
-        ..plain(verb)
-    })
-}
 
-// LOG lot:LOT COST* / QUOTE*, where the lot may be left out
-fn with_costs(line: &[u8], at: usize, verb: Verb) -> Option<Call>
-    ensures { heard_or line.now result ≡ said_new verb (words_of (drop at line.now)) }
-{
-    let (w, next) = word::first_at(line, at);
-    let log = number::whole(w)?;
-    let (lot, next) = lot_at(line, next);
-    let costs = list::span_at(line, next, RowKind::Cost, 32, true)?;
-    let first = list::span_at(line, costs.next, RowKind::Quote, 512, false)?;
-    Some(Call {
-        log,
-        lot,
-        costs,
-        first,
-        ..plain(verb)
-    })
-}
+    // The first word where it is the line's last, else an empty one.
+    fn only(self) -> &'a [u8]
+        ensures { result.now ≡ only_of (words_of (drop self.entry.at self.entry.line.now)) }
+    {
+        let (w, next) = word::first_at(self.line, self.at);
+        let rest = Words { at: next, ..self };
+        if rest.is_end() { w } else { &[] }
+    }
 
-// QUOTE* / QUOTE*: the tradable table, then the fetched one
-fn with_tables(line: &[u8], at: usize, verb: Verb) -> Option<Call>
-    ensures { heard_or line.now result ≡ said_check verb (words_of (drop at line.now)) }
-{
-    let first = list::span_at(line, at, RowKind::Quote, 512, true)?;
-    let fetched = list::span_at(line, first.next, RowKind::Quote, 512, false)?;
-    Some(Call {
-        first,
-        fetched,
-        ..plain(verb)
-    })
-}
-
-// ROOM WEIGHT*
-fn with_walk(line: &[u8], at: usize, verb: Verb) -> Option<Call>
-    ensures { heard_or line.now result ≡ said_walk verb (words_of (drop at line.now)) }
-{
-    let (w, next) = word::first_at(line, at);
-    let room = room_of(w)?;
-    let weights = list::span_at(line, next, RowKind::Weight, 512, false)?;
-    Some(Call {
-        room,
-        weights,
-        ..plain(verb)
-    })
-}
-
-// ROOM ORDER*
-fn with_orders(line: &[u8], at: usize, verb: Verb) -> Option<Call>
-    ensures { heard_or line.now result ≡ said_orders verb (words_of (drop at line.now)) }
-{
-    let (w, next) = word::first_at(line, at);
-    let room = room_of(w)?;
-    let orders = list::span_at(line, next, RowKind::Order, 1024, false)?;
-    Some(Call {
-        room,
-        orders,
-        ..plain(verb)
-    })
-}
-
-// ROOM VENDOR*
-fn with_vendors(line: &[u8], at: usize, verb: Verb) -> Option<Call>
-    ensures { heard_or line.now result ≡ said_correct verb (words_of (drop at line.now)) }
-{
-    let (w, next) = word::first_at(line, at);
-    let room = room_of(w)?;
-    let vendors = list::span_at(line, next, RowKind::Vendor, 1100, false)?;
-    Some(Call {
-        room,
-        vendors,
-        ..plain(verb)
-    })
-}
-
-// ROOM QUOTE* / QUOTE* / WEIGHT*
-fn with_weights(line: &[u8], at: usize, verb: Verb) -> Option<Call>
-    ensures { heard_or line.now result ≡ said_update verb (words_of (drop at line.now)) }
-{
-    let (w, next) = word::first_at(line, at);
-    let room = room_of(w)?;
-    let first = list::span_at(line, next, RowKind::Quote, 512, true)?;
-    let fetched = list::span_at(line, first.next, RowKind::Quote, 512, true)?;
-    let weights = list::span_at(line, fetched.next, RowKind::Weight, 512, false)?;
-    Some(Call {
-        room,
-        first,
-        fetched,
-        weights,
-        ..plain(verb)
-    })
-}
-
-// The call of a verb, with the words from `at` on, where they are of the verb's form.
-#[tactic(auto, unfolding(crate::specs::Calls::said_as))]
-fn of_words(line: &[u8], at: usize, verb: Verb) -> Option<Call>
-    ensures { heard_or line.now result ≡ said_as verb (words_of (drop at line.now)) }
-{
-    match verb {
-        Verb::Blank | Verb::Malformed => Some(plain(verb)),
-        Verb::New => with_costs(line, at, verb),
-        Verb::Lend => with_log(line, at, verb),
-        Verb::Delete => with_whole(line, at, verb),
-        Verb::Deposit | Verb::Withdraw | Verb::Liquidate | Verb::Floor | Verb::Ceil => {
-            with_amount(line, at, verb)
+    // A new broker's lot, which is 1 where the word is none, and where the words behind it are looked
+    // for.
+    fn lot(self) -> (u32, usize)
+        ensures lot { result.0 ≡ (lot_at (words_of (drop self.entry.at self.entry.line.now))).lot }
+        ensures rest { words_of (drop result.1 self.entry.line.now) ≡ (lot_at (words_of (drop self.entry.at self.entry.line.now))).behind }
+    {
+        let (w, next) = word::first_at(self.line, self.at);
+        match rows::lot(w) {
+            Some(n) => (n, next),
+            None => (1, self.at),
         }
-        Verb::Send | Verb::Insert => with_order(line, at, verb),
-        Verb::SendList => with_orders(line, at, verb),
-        Verb::Check => with_tables(line, at, verb),
-        Verb::Walk => with_walk(line, at, verb),
-        Verb::Update => with_weights(line, at, verb),
-        Verb::GetQuote
-        | Verb::GetPositionQty
-        | Verb::GetPendingOrder
-        | Verb::GetPositionValue
-        | Verb::GetPositionLiquidationValue
-        | Verb::CostBasis => with_symbol(line, at, verb),
-        Verb::GetPositions
-        | Verb::GetQuotes
-        | Verb::GetHoldings
-        | Verb::GetPendingOrders
-        | Verb::GetTradeCosts => with_room(line, at, verb),
-        Verb::TradeImpactTotal => with_side(line, at, verb),
-        Verb::CalculateTradeCosts => with_quantity(line, at, verb),
-        Verb::Correct => with_vendors(line, at, verb),
-        _ => alone(line, at, verb),
+    }
+
+    // The call with one word: a verb alone.
+    fn alone(self, verb: Verb) -> Option<Call>
+        ensures { heard_or self.entry.line.now result ≡ said_alone verb (words_of (drop self.entry.at self.entry.line.now)) }
+    {
+        self.is_end().then_some(plain(verb))
+    }
+
+    // Each of these puts what it reads into another field of the call, by another reader: a common one
+    // would take both as closures, and say as much at each use.
+    fn with_whole(self, verb: Verb) -> Option<Call>
+        ensures { heard_or self.entry.line.now result ≡ said_whole verb (words_of (drop self.entry.at self.entry.line.now)) }
+    {
+        let whole = number::whole(self.only())?;
+        Some(Call {
+            whole,
+            ..plain(verb)
+        })
+    }
+
+    fn with_log(self, verb: Verb) -> Option<Call>
+        ensures { heard_or self.entry.line.now result ≡ said_log verb (words_of (drop self.entry.at self.entry.line.now)) }
+    {
+        let log = number::whole(self.only())?;
+        Some(Call { log, ..plain(verb) })
+    }
+
+    fn with_symbol(self, verb: Verb) -> Option<Call>
+        ensures { heard_or self.entry.line.now result ≡ said_symbol verb (words_of (drop self.entry.at self.entry.line.now)) }
+    {
+        let symbol = number::symbol(self.only())?;
+        Some(Call {
+            symbol,
+            ..plain(verb)
+        })
+    }
+
+    fn with_amount(self, verb: Verb) -> Option<Call>
+        ensures { heard_or self.entry.line.now result ≡ said_amount verb (words_of (drop self.entry.at self.entry.line.now)) }
+    {
+        let amount = number::float(self.only())?;
+        Some(Call {
+            amount,
+            ..plain(verb)
+        })
+    }
+
+    fn with_order(self, verb: Verb) -> Option<Call>
+        ensures { heard_or self.entry.line.now result ≡ said_order verb (words_of (drop self.entry.at self.entry.line.now)) }
+    {
+        let order = rows::order(self.only())?;
+        Some(Call {
+            order,
+            ..plain(verb)
+        })
+    }
+
+    fn with_room(self, verb: Verb) -> Option<Call>
+        ensures { heard_or self.entry.line.now result ≡ said_room verb (words_of (drop self.entry.at self.entry.line.now)) }
+    {
+        let room = room_of(self.only())?;
+        Some(Call {
+            room,
+            ..plain(verb)
+        })
+    }
+
+    // QUANTITY VALUE
+    fn with_quantity(self, verb: Verb) -> Option<Call>
+        ensures { heard_or self.entry.line.now result ≡ said_quantity verb (words_of (drop self.entry.at self.entry.line.now)) }
+    {
+        let (w, next) = word::first_at(self.line, self.at);
+        let amount = number::float(w)?;
+        let second = number::float(Words { at: next, ..self }.only())?;
+        Some(Call {
+            amount,
+            second,
+            ..plain(verb)
+        })
+    }
+
+    // BUDGET PRICE, and `buy` or `sell`
+    fn with_side(self, verb: Verb) -> Option<Call>
+        ensures { heard_or self.entry.line.now result ≡ said_side verb (words_of (drop self.entry.at self.entry.line.now)) }
+    {
+        let (w, next) = word::first_at(self.line, self.at);
+        let amount = number::float(w)?;
+        let (w, next) = word::first_at(self.line, next);
+        let second = number::float(w)?;
+        let side = Words { at: next, ..self }.only();
+        let is_buy = word::is_name(side, b"buy");
+        if !(is_buy | word::is_name(side, b"sell")) {
+            return None;
+        }
+        Some(Call {
+            amount,
+            second,
+            is_buy,
+            ..plain(verb)
+        })
+    }
+
+    // LOG lot:LOT COST* / QUOTE*, where the lot may be left out
+    fn with_costs(self, verb: Verb) -> Option<Call>
+        ensures { heard_or self.entry.line.now result ≡ said_new verb (words_of (drop self.entry.at self.entry.line.now)) }
+    {
+        let (w, next) = word::first_at(self.line, self.at);
+        let log = number::whole(w)?;
+        let (lot, next) = Words { at: next, ..self }.lot();
+        let costs = list::span_at(self.line, next, RowKind::Cost, 32, true)?;
+        let first = list::span_at(self.line, costs.next, RowKind::Quote, 512, false)?;
+        Some(Call {
+            log,
+            lot,
+            costs,
+            first,
+            ..plain(verb)
+        })
+    }
+
+    // QUOTE* / QUOTE*: the tradable table, then the fetched one
+    fn with_tables(self, verb: Verb) -> Option<Call>
+        ensures { heard_or self.entry.line.now result ≡ said_check verb (words_of (drop self.entry.at self.entry.line.now)) }
+    {
+        let first = list::span_at(self.line, self.at, RowKind::Quote, 512, true)?;
+        let fetched = list::span_at(self.line, first.next, RowKind::Quote, 512, false)?;
+        Some(Call {
+            first,
+            fetched,
+            ..plain(verb)
+        })
+    }
+
+    // ROOM WEIGHT*
+    fn with_walk(self, verb: Verb) -> Option<Call>
+        ensures { heard_or self.entry.line.now result ≡ said_walk verb (words_of (drop self.entry.at self.entry.line.now)) }
+    {
+        let (w, next) = word::first_at(self.line, self.at);
+        let room = room_of(w)?;
+        let weights = list::span_at(self.line, next, RowKind::Weight, 512, false)?;
+        Some(Call {
+            room,
+            weights,
+            ..plain(verb)
+        })
+    }
+
+    // ROOM ORDER*
+    fn with_orders(self, verb: Verb) -> Option<Call>
+        ensures { heard_or self.entry.line.now result ≡ said_orders verb (words_of (drop self.entry.at self.entry.line.now)) }
+    {
+        let (w, next) = word::first_at(self.line, self.at);
+        let room = room_of(w)?;
+        let orders = list::span_at(self.line, next, RowKind::Order, 1024, false)?;
+        Some(Call {
+            room,
+            orders,
+            ..plain(verb)
+        })
+    }
+
+    // ROOM VENDOR*
+    fn with_vendors(self, verb: Verb) -> Option<Call>
+        ensures { heard_or self.entry.line.now result ≡ said_correct verb (words_of (drop self.entry.at self.entry.line.now)) }
+    {
+        let (w, next) = word::first_at(self.line, self.at);
+        let room = room_of(w)?;
+        let vendors = list::span_at(self.line, next, RowKind::Vendor, 1100, false)?;
+        Some(Call {
+            room,
+            vendors,
+            ..plain(verb)
+        })
+    }
+
+    // ROOM QUOTE* / QUOTE* / WEIGHT*
+    fn with_weights(self, verb: Verb) -> Option<Call>
+        ensures { heard_or self.entry.line.now result ≡ said_update verb (words_of (drop self.entry.at self.entry.line.now)) }
+    {
+        let (w, next) = word::first_at(self.line, self.at);
+        let room = room_of(w)?;
+        let first = list::span_at(self.line, next, RowKind::Quote, 512, true)?;
+        let fetched = list::span_at(self.line, first.next, RowKind::Quote, 512, true)?;
+        let weights = list::span_at(self.line, fetched.next, RowKind::Weight, 512, false)?;
+        Some(Call {
+            room,
+            first,
+            fetched,
+            weights,
+            ..plain(verb)
+        })
+    }
+
+    // The call of a verb, with these words, where they are of the verb's form. A match, since each form is
+    // another one.
+    #[tactic(auto, unfolding(crate::specs::Calls::said_as))]
+    fn of_verb(self, verb: Verb) -> Option<Call>
+        ensures { heard_or self.entry.line.now result ≡ said_as verb (words_of (drop self.entry.at self.entry.line.now)) }
+    {
+        match verb {
+            Verb::Blank | Verb::Malformed => Some(plain(verb)),
+            Verb::New => self.with_costs(verb),
+            Verb::Lend => self.with_log(verb),
+            Verb::Delete => self.with_whole(verb),
+            Verb::Deposit | Verb::Withdraw | Verb::Liquidate | Verb::Floor | Verb::Ceil => {
+                self.with_amount(verb)
+            }
+            Verb::Send | Verb::Insert => self.with_order(verb),
+            Verb::SendList => self.with_orders(verb),
+            Verb::Check => self.with_tables(verb),
+            Verb::Walk => self.with_walk(verb),
+            Verb::Update => self.with_weights(verb),
+            Verb::GetQuote
+            | Verb::GetPositionQty
+            | Verb::GetPendingOrder
+            | Verb::GetPositionValue
+            | Verb::GetPositionLiquidationValue
+            | Verb::CostBasis => self.with_symbol(verb),
+            Verb::GetPositions
+            | Verb::GetQuotes
+            | Verb::GetHoldings
+            | Verb::GetPendingOrders
+            | Verb::GetTradeCosts => self.with_room(verb),
+            Verb::TradeImpactTotal => self.with_side(verb),
+            Verb::CalculateTradeCosts => self.with_quantity(verb),
+            Verb::Correct => self.with_vendors(verb),
+            _ => self.alone(verb),
+        }
     }
 }
 
@@ -338,5 +353,8 @@ pub fn of_line(line: &[u8]) -> Call
     ensures { heard line.now result ≡ said (words_of line.now) }
 {
     let (w, next) = word::first_at(line, 0);
-    of_words(line, next, verb::named(w)).unwrap_or(plain(Verb::Malformed))
+    let words = Words { line, at: next };
+    words
+        .of_verb(verb::named(w))
+        .unwrap_or(plain(Verb::Malformed))
 }

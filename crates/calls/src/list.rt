@@ -106,6 +106,7 @@ impl WordRow for Order {
     }
 }
 
+// Each kind of row has its own reader.
 fn is_row(w: &[u8], kind: RowKind) -> bool
     ensures { result ≡ is_row kind w.now }
 {
@@ -152,13 +153,13 @@ pub fn span_at(line: &[u8], at: usize, kind: RowKind, most: usize, before: bool)
     }
 }
 
-// The first `n` words from `at` on, at most `N`, as rows, and blank ones behind them.
-fn rows<R: WordRow, const N: usize>(line: &[u8], at: usize, n: usize) -> [R; N]
-    ensures { result ≡ read_rows R.row_of R.blank_row N n (words_of (drop at line.now)) }
+// The words of a span, at most `N`, as rows, and blank ones behind them.
+fn rows<R: WordRow, const N: usize>(line: &[u8], span: Span) -> [R; N]
+    ensures { result ≡ read_rows R.row_of R.blank_row N span.count (words_of (drop span.at line.now)) }
 {
     let mut list = [R::blank(); N];
-    let mut place = at;
-    for i in 0..n.min(N) {
+    let mut place = span.at;
+    for i in 0..span.count.min(N) {
         let (w, next) = word::first_at(line, place);
         list[i] = R::read(w).unwrap_or(R::blank());
         place = next;
@@ -166,36 +167,36 @@ fn rows<R: WordRow, const N: usize>(line: &[u8], at: usize, n: usize) -> [R; N]
     list
 }
 
-// The first `n` words from `at` on, at most 512, as quotes.
+// The words of a span, at most 512, as quotes.
 #[tactic(auto, unfolding(crate::specs::Lists::quote_or_blank, crate::specs::Lists::read_quotes))]
-pub fn quotes(line: &[u8], at: usize, n: usize) -> [Quote; 512]
-    ensures { result ≡ read_quotes n (words_of (drop at line.now)) }
+pub fn quotes(line: &[u8], span: Span) -> [Quote; 512]
+    ensures { result ≡ read_quotes span.count (words_of (drop span.at line.now)) }
 {
-    rows(line, at, n)
+    rows(line, span)
 }
 
-// The first `n` words from `at` on, at most 512, as weights.
+// The words of a span, at most 512, as weights.
 #[tactic(auto, unfolding(crate::specs::Lists::weight_or_blank, crate::specs::Lists::read_weights))]
-pub fn weights(line: &[u8], at: usize, n: usize) -> [Weight; 512]
-    ensures { result ≡ read_weights n (words_of (drop at line.now)) }
+pub fn weights(line: &[u8], span: Span) -> [Weight; 512]
+    ensures { result ≡ read_weights span.count (words_of (drop span.at line.now)) }
 {
-    rows(line, at, n)
+    rows(line, span)
 }
 
-// The first `n` words from `at` on, at most 1,024, as orders.
+// The words of a span, at most 1,024, as orders.
 #[tactic(auto, unfolding(crate::specs::Lists::order_or_blank, crate::specs::Lists::read_orders))]
-pub fn orders(line: &[u8], at: usize, n: usize) -> [Order; 1024]
-    ensures { result ≡ read_orders n (words_of (drop at line.now)) }
+pub fn orders(line: &[u8], span: Span) -> [Order; 1024]
+    ensures { result ≡ read_orders span.count (words_of (drop span.at line.now)) }
 {
-    rows(line, at, n)
+    rows(line, span)
 }
 
-// The first `n` words from `at` on, at most 1,100, as vendor quotes.
+// The words of a span, at most 1,100, as vendor quotes.
 #[tactic(auto, unfolding(crate::specs::Lists::vendor_or_blank, crate::specs::Lists::read_vendors))]
-pub fn vendors(line: &[u8], at: usize, n: usize) -> [VendorQuote; 1100]
-    ensures { result ≡ read_vendors n (words_of (drop at line.now)) }
+pub fn vendors(line: &[u8], span: Span) -> [VendorQuote; 1100]
+    ensures { result ≡ read_vendors span.count (words_of (drop span.at line.now)) }
 {
-    rows(line, at, n)
+    rows(line, span)
 }
 
 // The cost that a word is, or a blank one.
@@ -205,13 +206,13 @@ fn cost_or_blank(w: &[u8]) -> BrokerCost
     rows::cost(w).unwrap_or(BrokerCost::Flat(0.0))
 }
 
-// The first `n` words from `at` on as costs.
-pub fn costs(line: &[u8], at: usize, n: usize) -> TradeCosts
-    ensures { result ≡ read_costs n (words_of (drop at line.now)) }
+// The words of a span as costs.
+pub fn costs(line: &[u8], span: Span) -> TradeCosts
+    ensures { result ≡ read_costs span.count (words_of (drop span.at line.now)) }
 {
     let mut list = TradeCosts::none();
-    let mut place = at;
-    for _i in 0..n {
+    let mut place = span.at;
+    for _i in 0..span.count {
         let (w, next) = word::first_at(line, place);
         list = list.with(cost_or_blank(w));
         place = next;

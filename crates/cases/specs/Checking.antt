@@ -1,6 +1,7 @@
 -- Cases of document 01, section 4, by the plain ledger's calls one after the other: checks, shortfalls, and what a Failed broker refuses. Definitions only.
-use Rattle.std.specs.Prelude.{ℕ, Bool, true, false, List, [], ◌∷◌, Float}
+use Rattle.std.specs.Prelude.{ℕ, Bool, true, false, List, [], ◌∷◌, map, Float}
 use Rattle.std.specs.Prelude.{Option, None, Some}
+use Rattle.market.specs.declared.fault.Fault.TheVariants.{UnknownSymbol, BadValue, BrokerFailed, WithdrawFailed}
 use Rattle.market.specs.Orders.{event_of}
 use Rattle.market.specs.declared.order.Order.{Order}
 use Rattle.market.specs.declared.quote.Quote.{Quote}
@@ -9,7 +10,7 @@ use Rattle.ledger.specs.Calls.{Call, deposit, withdraw, liquidate, send, insert,
 use Rattle.ledger.specs.Ledger as Ledger
 use Rattle.ledger.specs.Ledger.{Ledger, start}
 use Rattle.ledger.specs.Examples.{Example, example, num, halves, quote, buy, sell}
-use Rattle.cases.specs.Made.{negative}
+use Rattle.cases.specs.Made.{negative, numbered}
 
 -- after these calls: cash, Failed, what is held and pending of symbol 1, its latest quote, and the orders that wait
 pub record Seen : Type 0 where
@@ -69,20 +70,21 @@ checking =
     -- a Failed broker: deposits, withdrawals and sends draw 4; a liquidation does not (the sale of 2.5 shares does, unreported), nor does an insertion, nor a
     -- check, which books it, nor the next, which trades it
     example 472
-    (Ledger.answers (after (at 9 10) failing)
-    (deposit (num 10) ∷ withdraw (num 10) ∷ send (sell 1 1) ∷ liquidate (num 50) ∷ insert (sell 1 5) ∷ check [] [] ∷ check (at 30 31) [] ∷ []))
-    (refused 4 (num 10) ∷ refused 4 (num 10) ∷ event (event_of (sell 1 1) 4) ∷ withdrawn (num 50) ∷ event (event_of (sell 1 5) 0) ∷ traded 0 0 ∷ traded 0 1 ∷ []) ∷
+    (map numbered (Ledger.answers (after (at 9 10) failing)
+    (deposit (num 10) ∷ withdraw (num 10) ∷ send (sell 1 1) ∷ liquidate (num 50) ∷ insert (sell 1 5) ∷ check [] [] ∷ check (at 30 31) [] ∷ [])))
+    ((refused (Some BrokerFailed) (num 10), 4) ∷ (refused (Some BrokerFailed) (num 10), 4) ∷ (event (event_of (sell 1 1) (Some BrokerFailed)), 4) ∷
+    (withdrawn (num 50), 0) ∷ (event (event_of (sell 1 5) None), 0) ∷ (traded None 0, 0) ∷ (traded None 1, 0) ∷ []) ∷
     -- after those: cash -80 + 5 × 30, 9 - 5 held, pending 0 + 5 by the trade alone; Failed for good
     example 473
     (seen (Ledger.run (after (at 9 10) failing) (deposit (num 10) ∷ send (sell 1 1) ∷ liquidate (num 50) ∷ insert (sell 1 5) ∷ check [] [] ∷ check (at 30 31) [] ∷ [])))
     (record { cash = num 70; failed = true; held = Some (num 4); pending = Some (num 5); latest = Some (quote 1 (num 20) (num 20)); waiting = [] }) ∷
     -- a Ready broker: a deposit adds, a withdrawal of all of cash takes it, one above cash draws 12, and a negative deposit is allowed
     example 474
-    (Ledger.answers (after [] []) (deposit (num 100) ∷ withdraw (halves 201) ∷ withdraw (num 100) ∷ deposit (negative 5 1) ∷ []))
-    (deposited (num 100) ∷ refused 12 (halves 201) ∷ withdrawn (num 100) ∷ deposited (negative 5 1) ∷ []) ∷
+    (map numbered (Ledger.answers (after [] []) (deposit (num 100) ∷ withdraw (halves 201) ∷ withdraw (num 100) ∷ deposit (negative 5 1) ∷ [])))
+    ((deposited (num 100), 0) ∷ (refused (Some WithdrawFailed) (halves 201), 12) ∷ (withdrawn (num 100), 0) ∷ (deposited (negative 5 1), 0) ∷ []) ∷
     -- a check draws its tradable table's number, 1 for symbol 256; else that of the fetched one, 2 for a bid of 0
     example 475
-    (Ledger.answers (after [] []) (check (quote 256 (num 1) (num 1) ∷ []) (at 0 1) ∷ check (at 1 1) (at 0 1) ∷ []))
-    (traded 1 0 ∷ traded 2 0 ∷ []) ∷
+    (map numbered (Ledger.answers (after [] []) (check (quote 256 (num 1) (num 1) ∷ []) (at 0 1) ∷ check (at 1 1) (at 0 1) ∷ [])))
+    ((traded (Some UnknownSymbol) 0, 1) ∷ (traded (Some BadValue) 0, 2) ∷ []) ∷
     -- cash: 100 + 5 - 30, and 12 changes nothing
     example 476 (after [] (deposit (num 100) ∷ deposit (num 5) ∷ withdraw (num 30) ∷ withdraw (num 76) ∷ [])).money.cash (num 75) ∷ []

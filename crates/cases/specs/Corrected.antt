@@ -1,7 +1,7 @@
 -- Cases of document 02, request 5: corrected quotes. Definitions only.
 use Rattle.std.specs.Prelude.{ℕ, ◌+◌, true, false, List, [], ◌∷◌, map, ℤ, pos, negsuc}
 use Rattle.std.specs.Float.{nan}
-use Rattle.market.specs.Faults.{drawn}
+use Rattle.market.specs.Faults.{drawn, number_drawn}
 use Rattle.market.specs.declared.quote.Quote.{Quote}
 use Rattle.market.specs.declared.vendor_quote.VendorQuote.{VendorQuote}
 use Rattle.corrections.specs.Corrections.{supersedes, corrected_of, vendor_tests, correct_fault, rows_shown}
@@ -22,8 +22,9 @@ unknown = row 256 9 (pos 1) 0
 abbrev unpriced : ℕ → ℤ → VendorQuote
 unpriced s date = record { symbol = s; bid = nan; ask = num 10; date = date; revision = 0 }
 
+-- the number that rows draw, or 0
 abbrev draws : List VendorQuote → ℕ
-draws rows = drawn (vendor_tests rows)
+draws rows = number_drawn (drawn (vendor_tests rows))
 
 -- the least and the greatest date of 64 bits
 abbrev first-date : ℤ
@@ -84,7 +85,7 @@ corrected =
     (1 ∷ 2 ∷ []) ∷
     -- 15 for a lent table of fewer than 256 rows, then 22 for more than 1,024 rows, then 1: 255 and 256 places, 1,024 and 1,025 rows
     example 5011
-    (correct_fault 255 1025 (unknown ∷ []) ∷ correct_fault 255 0 [] ∷ correct_fault 256 1025 (unknown ∷ []) ∷ correct_fault 256 1024 (unknown ∷ []) ∷ correct_fault 256 1024 [] ∷ [])
+    (map number_drawn (correct_fault 255 1025 (unknown ∷ []) ∷ correct_fault 255 0 [] ∷ correct_fault 256 1025 (unknown ∷ []) ∷ correct_fault 256 1024 (unknown ∷ []) ∷ correct_fault 256 1024 [] ∷ []))
     (15 ∷ 15 ∷ 22 ∷ 1 ∷ 0 ∷ []) ∷
     -- where a number is drawn no row is shown
     example 5012

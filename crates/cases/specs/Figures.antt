@@ -3,7 +3,7 @@ use Rattle.std.specs.Prelude.{Bool, true, false, replicate, Float}
 use mathlib.Core.List.{List, [], ◌∷◌, map, foldl}
 use Rattle.std.specs.Float.{nan, inf}
 use Rattle.floats.specs.Whole.{floor_of, ceil_of}
-use Rattle.market.specs.Faults.{drawn}
+use Rattle.market.specs.Faults.{drawn, number_drawn}
 use Rattle.costs.specs.declared.BrokerCost.{BrokerCost}
 use Rattle.costs.specs.declared.BrokerCost.TheVariants.{PerShare, PctOfValue, Flat}
 use Rattle.costs.specs.Costs.{trade_impact_total, trade_costs, is_finite}
@@ -60,5 +60,5 @@ figures =
     example 116 (left (costs_of (foldl with_cost no_costs (replicate 16 (Flat (num 1))))) true) (num 984, num 10) ∷
     -- the builder's numbers: 16 costs pass; 17 draw 14, which comes before 2; a cost that is not finite draws 2
     example 117
-    (drawn (builder_tests 16 1 (Flat (num 1) ∷ [])) ∷ drawn (builder_tests 17 1 (Flat nan ∷ [])) ∷ drawn (builder_tests 2 1 (Flat (num 1) ∷ PerShare nan ∷ [])) ∷ [])
+    (map number_drawn (drawn (builder_tests 16 1 (Flat (num 1) ∷ [])) ∷ drawn (builder_tests 17 1 (Flat nan ∷ [])) ∷ drawn (builder_tests 2 1 (Flat (num 1) ∷ PerShare nan ∷ [])) ∷ []))
     (0 ∷ 14 ∷ 2 ∷ []) ∷ []

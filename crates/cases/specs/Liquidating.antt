@@ -1,6 +1,7 @@
 -- Cases of document 01, section 4: liquidation of an amount, by the rule and by the plain ledger's call. Definitions only.
-use Rattle.std.specs.Prelude.{List, [], ◌∷◌, map, Float}
+use Rattle.std.specs.Prelude.{ℕ, List, [], ◌∷◌, map, Float}
 use Rattle.std.specs.Prelude.{None, Some}
+use Rattle.market.specs.declared.fault.Fault.TheVariants.{WithdrawFailed}
 use Rattle.market.specs.Orders.{market_order}
 use Rattle.market.specs.declared.order.Order.{Order}
 use Rattle.market.specs.declared.order.OrderType.TheVariants.{MarketSell}
@@ -11,7 +12,7 @@ use Rattle.rules.specs.Liquidation.{sales_for, debited_by}
 use Rattle.ledger.specs.Calls.{Answer, withdrawn, refused, liquidate}
 use Rattle.ledger.specs.Ledger as Ledger
 use Rattle.ledger.specs.Examples.{Example, example, num, halves, quote, sell}
-use Rattle.cases.specs.Made.{ratio, negative, having, holding}
+use Rattle.cases.specs.Made.{ratio, negative, having, holding, numbered}
 
 -- symbol 1 at bid 10, symbol 2 at bid 25.5, asks above them; 4 and 2 are held, worth 40 and 51; this cash
 abbrev two : Float → Money
@@ -25,11 +26,11 @@ unquoted cash = having [] (quote 2 (halves 51) (num 27) ∷ []) cash ((1, num 3)
 abbrev parted : Money
 parted = having (PctOfValue (halves 1) ∷ []) (quote 1 (num 10) (num 11) ∷ []) (num 7) ((1, num 10) ∷ []) []
 
--- the call: what it answers, cash afterwards, and the orders that wait
-abbrev called : Money → Float → Answer × (Float × List Order)
+-- the call: what it answers, with its number, cash afterwards, and the orders that wait
+abbrev called : Money → Float → (Answer × ℕ) × (Float × List Order)
 called m a =
     let L = Ledger.step (holding m) (liquidate a) in
-    (Ledger.answer (holding m) (liquidate a), (L.money.cash, orders_of L.orders.waiting))
+    (numbered (Ledger.answer (holding m) (liquidate a)), (L.money.cash, orders_of L.orders.waiting))
 
 abbrev pub liquidating : List Example
 liquidating =
@@ -62,9 +63,9 @@ liquidating =
     (map (λ a. (debited_by a (two (num 100))).cash) (num 95 ∷ num 100 ∷ halves 201 ∷ negative 1 1 ∷ []))
     (num 5 ∷ num 0 ∷ num 100 ∷ num 101 ∷ []) ∷
     -- the call: success answered, cash untouched, the orders wait; the sale of no shares is refused, unreported
-    example 462 (called (two (num 7)) (num 40)) (withdrawn (num 40), (num 7, sell 1 4 ∷ [])) ∷
+    example 462 (called (two (num 7)) (num 40)) ((withdrawn (num 40), 0), (num 7, sell 1 4 ∷ [])) ∷
     -- 12 with a debit, and 12 without
-    example 463 (called (two (num 100)) (num 95)) (refused 12 (num 95), (num 5, [])) ∷
-    example 464 (called (two (num 100)) (num 192)) (refused 12 (num 192), (num 100, [])) ∷
+    example 463 (called (two (num 100)) (num 95)) ((refused (Some WithdrawFailed) (num 95), 12), (num 5, [])) ∷
+    example 464 (called (two (num 100)) (num 192)) ((refused (Some WithdrawFailed) (num 192), 12), (num 100, [])) ∷
     -- the sale of the unquoted symbol is refused, unreported
-    example 465 (called (unquoted (num 0)) (num 51)) (withdrawn (num 51), (num 0, sell 2 2 ∷ [])) ∷ []
+    example 465 (called (unquoted (num 0)) (num 51)) ((withdrawn (num 51), 0), (num 0, sell 2 2 ∷ [])) ∷ []

@@ -3,7 +3,8 @@ use Rattle.std.specs.Prelude.{ℕ, true, false, List, [], ◌∷◌, map, Float}
 use Rattle.std.specs.Prelude.{Option, None, Some}
 use Rattle.std.specs.Float.{nan, inf}
 use Rattle.floats.specs.Lots.{is_lot, lot_shares}
-use Rattle.market.specs.Faults.{drawn}
+use Rattle.market.specs.Faults.{drawn, number_drawn}
+use Rattle.market.specs.declared.fault.Fault.TheVariants.{BeyondLot}
 use Rattle.market.specs.Orders.{zero64, market_order, event_of}
 use Rattle.market.specs.declared.order.OrderEvent.{OrderEvent}
 use Rattle.market.specs.declared.order.OrderType.TheVariants.{MarketSell}
@@ -18,7 +19,7 @@ use Rattle.broker.specs.Build.{builder_tests}
 use Rattle.ledger.specs.Calls.{deposit, send, check, updated, update}
 use Rattle.ledger.specs.Ledger as Ledger
 use Rattle.ledger.specs.Examples.{Example, example, num, halves, quote, weight, buy, sell}
-use Rattle.cases.specs.Made.{ratio, negative, having, in_lots, holding}
+use Rattle.cases.specs.Made.{ratio, negative, having, in_lots, holding, plan_told, numbered}
 
 -- 2 to the 52nd, and the floats before it, on both sides of zero; infinities and NaN
 abbrev edge : List Float
@@ -32,7 +33,7 @@ money costs =
 
 -- what stands in a lent list of events before the call
 abbrev blank : OrderEvent
-blank = event_of (sell 0 0) 0
+blank = event_of (sell 0 0) None
 
 -- an update at lot 2 whose second row draws 18, and that fetches a quote of symbol 4
 abbrev refused_update : Ledger.Ledger
@@ -66,38 +67,38 @@ lots =
     (map (λ x. Some x) (num 4503599627370496 ∷ num 4503599627370495 ∷ negative 4503599627370496 1 ∷ negative 4503599627370496 1 ∷ inf false ∷ inf true ∷ nan ∷ [])) ∷
     -- the builder: 17 at 0 and at 1,000,001; 14 before 17, 17 before 2
     example 1006
-    (drawn (builder_tests 0 0 []) ∷ drawn (builder_tests 0 1000001 []) ∷ drawn (builder_tests 0 1000000 []) ∷ drawn (builder_tests 17 0 []) ∷ drawn (builder_tests 1 0 (Flat nan ∷ [])) ∷ drawn (builder_tests 1 5 (Flat nan ∷ [])) ∷ [])
+    (map number_drawn (drawn (builder_tests 0 0 []) ∷ drawn (builder_tests 0 1000001 []) ∷ drawn (builder_tests 0 1000000 []) ∷ drawn (builder_tests 17 0 []) ∷ drawn (builder_tests 1 0 (Flat nan ∷ [])) ∷ drawn (builder_tests 1 5 (Flat nan ∷ [])) ∷ []))
     (17 ∷ 17 ∷ 0 ∷ 14 ∷ 17 ∷ 2 ∷ []) ∷
     -- by 4: 200 × 0.5 = 100 at the ask 10 is 10, down to 8; 200 × 0.25 - 100 = -50 at the bid 10 is 5, down to 4, a sale; 200 × 0.125 = 25 is 2.5: no order
     example 1007
     (map (plan_of (in_lots 4 (money []))) ((weight 2 (halves 1) ∷ []) ∷ (weight 1 (ratio 1 4) ∷ []) ∷ (weight 2 (ratio 1 8) ∷ []) ∷ []))
-    (plan_as 0 (buy 2 8 ∷ []) ∷ plan_as 0 (sell 1 4 ∷ []) ∷ plan_as 0 [] ∷ []) ∷
+    (plan_as None (buy 2 8 ∷ []) ∷ plan_as None (sell 1 4 ∷ []) ∷ plan_as None [] ∷ []) ∷
     -- flat 50, by 4: 150 × 0.25 = 37.5, less 50 at the ask 10 is -1.25, down to -4: a sale of 4. 150 × 0.5 - 100 = -25, 25 - 50 at the bid 10 is -2.5, down to -4:
     -- negated for a difference below zero, a buy of 4
     example 1008
     (map (plan_of (in_lots 4 (money (Flat (num 50) ∷ [])))) ((weight 2 (ratio 1 4) ∷ []) ∷ (weight 1 (halves 1) ∷ []) ∷ []))
-    (plan_as 0 (sell 2 4 ∷ []) ∷ plan_as 0 (buy 1 4 ∷ []) ∷ []) ∷
+    (plan_as None (sell 2 4 ∷ []) ∷ plan_as None (buy 1 4 ∷ []) ∷ []) ∷
     -- 100 over 2 to the -50th is above 2 to the 52nd: 18, and the order before it is not listed. By 1 it draws nothing: 100 × 1,125,899,906,842,624
     example 1009
-    (map (λ lot. plan_of (in_lots lot (money [])) (weight 2 (halves 1) ∷ weight 3 (halves 1) ∷ [])) (2 ∷ 1 ∷ []))
-    (plan_as 18 [] ∷ plan_as 0 (buy 2 10 ∷ buy 3 112589990684262400 ∷ []) ∷ []) ∷
+    (map (λ lot. plan_told (plan_of (in_lots lot (money [])) (weight 2 (halves 1) ∷ weight 3 (halves 1) ∷ []))) (2 ∷ 1 ∷ []))
+    ((18, []) ∷ (0, buy 2 10 ∷ buy 3 112589990684262400 ∷ []) ∷ []) ∷
     -- an unquoted symbol has no quotient, and the walk goes on to the row that draws 18; a zero difference ends it before
     example 1010
-    (map (plan_of (in_lots 2 (money []))) ((weight 0 (halves 1) ∷ weight 3 (halves 1) ∷ []) ∷ (weight 1 (halves 1) ∷ weight 3 (halves 1) ∷ []) ∷ []))
-    (plan_as 18 [] ∷ plan_as 0 [] ∷ []) ∷
+    (map (λ l. plan_told (plan_of (in_lots 2 (money [])) l)) ((weight 0 (halves 1) ∷ weight 3 (halves 1) ∷ []) ∷ (weight 1 (halves 1) ∷ weight 3 (halves 1) ∷ []) ∷ []))
+    ((18, []) ∷ (0, []) ∷ []) ∷
     -- 13 comes first: 5 held at 10 are 50, of which flat 50 leaves no value, and (50 - 50) / (10 - 10) is NaN; with 1 in cash (49.5 - 50) / 0 is an infinity, and 18
     example 1011
-    (map (λ cash. plan_of (in_lots 10 (having (Flat (num 50) ∷ PerShare (num 10) ∷ []) (quote 1 (num 10) (num 10) ∷ []) cash ((1, num 5) ∷ []) [])) (weight 1 (halves 1) ∷ []))
+    (map (λ cash. plan_told (plan_of (in_lots 10 (having (Flat (num 50) ∷ PerShare (num 10) ∷ []) (quote 1 (num 10) (num 10) ∷ []) cash ((1, num 5) ∷ []) [])) (weight 1 (halves 1) ∷ [])))
     (num 0 ∷ num 1 ∷ []))
-    (plan_as 13 [] ∷ plan_as 18 [] ∷ []) ∷
+    ((13, []) ∷ (18, []) ∷ []) ∷
     -- 0 / 0 is NaN: 18 by 2 (by 1 it is case 513, a sale of NaN)
     example 1012
-    (plan_of (in_lots 2 (having (PctOfValue (num 1) ∷ PerShare (num 9) ∷ []) (quote 2 (num 9) (num 10) ∷ []) (num 100) [] [])) (weight 2 (negative 1 1) ∷ []))
-    (plan_as 18 []) ∷
+    (plan_told (plan_of (in_lots 2 (having (PctOfValue (num 1) ∷ PerShare (num 9) ∷ []) (quote 2 (num 9) (num 10) ∷ []) (num 100) [] [])) (weight 2 (negative 1 1) ∷ [])))
+    (18, []) ∷
     -- an update: 18, total 0.0, no event, the lent list as it was; its check stands, so the fetched quote is the latest, and no order waits
     example 1013
-    (Ledger.answer (holding (in_lots 2 (money []))) (update [] (quote 4 (num 7) (num 8) ∷ []) (weight 2 (halves 1) ∷ weight 3 (halves 1) ∷ []) (blank ∷ blank ∷ [])))
-    (updated 18 zero64 0 (blank ∷ blank ∷ [])) ∷
+    (numbered (Ledger.answer (holding (in_lots 2 (money []))) (update [] (quote 4 (num 7) (num 8) ∷ []) (weight 2 (halves 1) ∷ weight 3 (halves 1) ∷ []) (blank ∷ blank ∷ []))))
+    (updated (Some BeyondLot) zero64 0 (blank ∷ blank ∷ []), 18) ∷
     example 1014 (latest_and_waiting refused_update 4) (Some (quote 4 (num 7) (num 8)), []) ∷
     -- a liquidation keeps its fraction at lot 100: 10 held at bid 8, 20 / 8 is 2.5
     example 1015 (sales_for (in_lots 100 (having [] (quote 1 (num 8) (num 9) ∷ []) (num 0) ((1, num 10) ∷ []) [])) (num 20)) (Some (market_order MarketSell 1 (halves 5) ∷ [])) ∷
@@ -105,6 +106,6 @@ lots =
     -- 997 × 0.5 - 27 = 471.5, at 10 47.15, by 4: 44
     example 1016
     (plan_of (Ledger.run (Ledger.start [] 4 rows 8) (deposit (num 1000) ∷ send (buy 2 3) ∷ check [] [] ∷ check rows rows ∷ [])).money (weight 2 (halves 1) ∷ []))
-    (plan_as 0 (buy 2 44 ∷ [])) ∷
+    (plan_as None (buy 2 44 ∷ [])) ∷
     -- and where a liquidation failed
     example 1017 (failed_if true (in_lots 4 (money []))).lot 4 ∷ []

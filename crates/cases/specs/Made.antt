@@ -3,13 +3,17 @@ use Rattle.std.specs.Prelude.{ℕ, false, true, cond, List, [], ◌∷◌, eqb, 
 use Rattle.std.specs.Prelude.{Option, None, Some}
 use Rattle.std.specs.Float.Ieee as Ieee
 use Rattle.std.specs.Float.{fin, binary64}
+use Rattle.market.specs.Faults.{number_drawn}
 use Rattle.market.specs.Quotes.{row_for}
+use Rattle.market.specs.declared.order.Order.{Order}
 use Rattle.market.specs.declared.quote.Quote.{Quote}
 use Rattle.market.specs.declared.trade.Trade.{Trade}
 use Rattle.market.specs.declared.trade.TradeType.{TradeType}
 use Rattle.costs.specs.declared.BrokerCost.{BrokerCost}
 use Rattle.orders.specs.Orders.{no_orders}
 use Rattle.rules.specs.Money.{Money}
+use Rattle.rules.specs.Weights.{Plan}
+use Rattle.ledger.specs.Calls.{Answer, fault, deposited, withdrawn, refused, event, events, traded, updated}
 use Rattle.ledger.specs.Ledger.{Ledger}
 
 -- ---- figures: the binary64 nearest to n / d, and to -n / d
@@ -54,3 +58,24 @@ in_lots lot m =
 -- the plain ledger with this money, for a log of 8 rows, no order taken yet
 abbrev pub holding : Money → Ledger
 holding m = record { room = 8; money = m; orders = no_orders }
+
+-- ---- the numbers that are drawn, 0 where none is
+
+-- a plan by its number and its orders
+abbrev pub plan_told : Plan → ℕ × List Order
+plan_told p = (number_drawn p.fault, p.orders)
+
+-- the number that an answer tells
+abbrev pub number_told : Answer → ℕ
+number_told (fault d) = number_drawn d
+number_told (deposited a) = 0
+number_told (withdrawn a) = 0
+number_told (refused d a) = number_drawn d
+number_told (event e) = number_drawn e.fault
+number_told (events d l) = number_drawn d
+number_told (traded d n) = number_drawn d
+number_told (updated d total n l) = number_drawn d
+
+-- an answer, with its number
+abbrev pub numbered : Answer → Answer × ℕ
+numbered a = (a, number_told a)

@@ -2,7 +2,8 @@
 use Rattle.std.specs.Prelude.{ℕ, true, false, List, [], ◌∷◌, map, replicate, Float}
 use Rattle.std.specs.Prelude.{Option, None, Some}
 use Rattle.std.specs.Float.{nan}
-use Rattle.market.specs.Faults.{◌draws◌, drawn}
+use Rattle.market.specs.Faults.{◌draws◌, drawn, number_drawn}
+use Rattle.market.specs.declared.fault.Fault.TheVariants.{LogFull, BookFull}
 use Rattle.market.specs.Orders.{market_order, priced_order}
 use Rattle.market.specs.declared.order.Order.{Order}
 use Rattle.market.specs.declared.order.OrderType.TheVariants.{MarketSell, MarketBuy, LimitSell, LimitBuy, StopSell, StopBuy}
@@ -19,11 +20,11 @@ with cash held = having [] (quote 1 (num 9) (num 10) ∷ []) cash held []
 
 -- the number that an order draws, or 0, the exchange having room
 abbrev fault : Money → Order → ℕ
-fault m o = drawn (send_tests m [] o)
+fault m o = number_drawn (drawn (send_tests m [] o))
 
 -- the same where 10 and 11 both hold
 abbrev crowded : Money → Order → ℕ
-crowded m o = drawn (send_tests m ((true draws 10) ∷ (true draws 11) ∷ []) o)
+crowded m o = number_drawn (drawn (send_tests m ((true draws LogFull) ∷ (true draws BookFull) ∷ []) o))
 
 -- pending of symbols 1 and 2 after a send, p being what was pending before
 abbrev pending_after : List (ℕ × Float) → Order → List (Option Float)
@@ -32,7 +33,7 @@ pending_after p o = map (expected o (having [] [] (num 0) [] p)).pending (1 ∷ 
 -- the number that a direct insertion draws, or 0, where so many orders wait and the log has so many rows
 abbrev room_for : ℕ → ℕ → ℕ
 room_for rows orders =
-    (insert_event
+    number_drawn (insert_event
     (record { room = rows; money = with (num 0) []; orders = record { waiting = replicate orders (plain (sell 1 1)); booked = []; trades = [] } })
     (sell 1 1)).fault
 

@@ -1,8 +1,9 @@
--- Cases of document 01, section 2, and of the supplier's 1, 2 and 3. Definitions only.
+-- Cases of document 01, section 2, and of the supplier's 1, 2 and 3; the number of each refusal. Definitions only.
 use Rattle.std.specs.Prelude.{ℕ, true, false, List, [], ◌∷◌, map}
 use Rattle.std.specs.Prelude.{None, Some}
 use Rattle.std.specs.Float.{nan, inf}
-use Rattle.market.specs.Faults.{drawn}
+use Rattle.market.specs.Faults.{drawn, number_of, number_drawn}
+use Rattle.market.specs.declared.fault.Fault.TheVariants.{UnknownSymbol, BadValue, NotAscending, BrokerFailed, Unquoted, NotMarket, ExceedsCash, ExceedsHolding, ZeroShares, LogFull, BookFull, WithdrawFailed, NothingToWeigh, TooManyCosts, ListTooShort, Unsound, LotOutOfRange, BeyondLot, MalformedLine, TextTooLong, AlikeRows, TooManyRows}
 use Rattle.market.specs.Orders.{market_order, priced_order, order_tests}
 use Rattle.market.specs.Quotes.{table_tests, row_for, table_of, row_at}
 use Rattle.market.specs.Weights.{weight_rows}
@@ -15,13 +16,13 @@ use Rattle.cases.specs.Made.{negative}
 
 -- the number that rows, weights or an order draw, or 0
 abbrev rows_draw : List Quote → ℕ
-rows_draw l = drawn (table_tests 0 l)
+rows_draw l = number_drawn (drawn (table_tests 0 l))
 
 abbrev weights_draw : List Weight → ℕ
-weights_draw l = drawn (weight_rows 0 l)
+weights_draw l = number_drawn (drawn (weight_rows 0 l))
 
 abbrev order_draws : Order → ℕ
-order_draws o = drawn (order_tests o)
+order_draws o = number_drawn (drawn (order_tests o))
 
 abbrev good : ℕ → Quote
 good s = quote s (num 9) (num 10)
@@ -46,7 +47,7 @@ tables =
     example 206 (map (row_for (good 0 ∷ good 7 ∷ good 255 ∷ [])) (7 ∷ 255 ∷ 8 ∷ 256 ∷ [])) (Some (good 7) ∷ Some (good 255) ∷ None ∷ None ∷ []) ∷
     example 207 (map (row_at (table_of (good 0 ∷ good 7 ∷ good 255 ∷ []))) (7 ∷ 255 ∷ 8 ∷ 256 ∷ [])) (Some (good 7) ∷ Some (good 255) ∷ None ∷ None ∷ []) ∷
     -- the table by symbol keeps the number of its first bad row: 3, then 1
-    example 208 (table_of (good 2 ∷ good 1 ∷ good 256 ∷ [])).fault 3 ∷
+    example 208 (number_drawn (table_of (good 2 ∷ good 1 ∷ good 256 ∷ [])).fault) 3 ∷
     -- weights: any finite one passes, also below zero; 1, 2 and 3
     example 209
     (map weights_draw
@@ -55,4 +56,10 @@ tables =
     -- orders: 1 before 2; 2 by the shares, and by the price where there is one
     example 210
     (map order_draws (market_order MarketBuy 256 nan ∷ market_order MarketBuy 1 (inf true) ∷ priced_order LimitBuy 1 (num 1) nan ∷ market_order LimitBuy 255 (num 1) ∷ []))
-    (1 ∷ 2 ∷ 2 ∷ 0 ∷ []) ∷ []
+    (1 ∷ 2 ∷ 2 ∷ 0 ∷ []) ∷
+    -- the number of each refusal: of the supplier, the sender, the cash mover, the weights, the builder, the lender, then those of document 02
+    example 211
+    (map number_of
+    (UnknownSymbol ∷ BadValue ∷ NotAscending ∷ BrokerFailed ∷ Unquoted ∷ NotMarket ∷ ExceedsCash ∷ ExceedsHolding ∷ ZeroShares ∷ LogFull ∷ BookFull ∷
+    WithdrawFailed ∷ NothingToWeigh ∷ TooManyCosts ∷ ListTooShort ∷ Unsound ∷ LotOutOfRange ∷ BeyondLot ∷ MalformedLine ∷ TextTooLong ∷ AlikeRows ∷ TooManyRows ∷ []))
+    (1 ∷ 2 ∷ 3 ∷ 4 ∷ 5 ∷ 6 ∷ 7 ∷ 8 ∷ 9 ∷ 10 ∷ 11 ∷ 12 ∷ 13 ∷ 14 ∷ 15 ∷ 16 ∷ 17 ∷ 18 ∷ 19 ∷ 20 ∷ 21 ∷ 22 ∷ []) ∷ []

@@ -1,5 +1,6 @@
 -- The order in which the rows are given does not matter: in another order they draw no number either, and the table is the same.
 -- Assumes nothing.
+use Rattle.std.specs.declared.option.Option.TheVariants.{None}
 use mathlib.Core.Path.{◌≡◌, refl, ap, ap₂, sym, ◌∙◌}
 use mathlib.Core.Bool.{Bool, true, false, ◌||◌}
 use mathlib.Core.List.{List}
@@ -29,7 +30,7 @@ module _ (l m : List VendorQuote) (same : (r : VendorQuote) → Among r l ↔ Am
         newest = λ q here r h. c.newest q here r ((same r).0 h);
       }
 
-  pub same-members : drawn (vendor_tests l) ≡ 0 → drawn (vendor_tests m) ≡ 0 → corrected_of m ≡ corrected_of l
+  pub same-members : drawn (vendor_tests l) ≡ None → drawn (vendor_tests m) ≡ None → corrected_of m ≡ corrected_of l
   same-members e f = corrects-once l e (corrected_of m) (corrected_of l) (corrects-both (corrected_of m) (corrects m f)) (corrects l e)
 
 -- ---- the same rows in another order
@@ -79,8 +80,8 @@ some_alike-reordered (by_way_of k l m p q) = some_alike-reordered p ∙ some_ali
 
 -- ---- any order
 
-pub any_order : (l m : List VendorQuote) → Reordered l m → drawn (vendor_tests l) ≡ 0 → (drawn (vendor_tests m) ≡ 0) × (corrected_of m ≡ corrected_of l)
+pub any_order : (l m : List VendorQuote) → Reordered l m → drawn (vendor_tests l) ≡ None → (drawn (vendor_tests m) ≡ None) × (corrected_of m ≡ corrected_of l)
 any_order l m p e =
     let n = draws-none l e in
-    let f = none-draws m (record { sound = all-reordered (λ r. drawn (vendor_row_tests r) ≡ 0) p n.sound; unlike = sym (some_alike-reordered p) ∙ n.unlike }) in
+    let f = none-draws m (record { sound = all-reordered (λ r. drawn (vendor_row_tests r) ≡ None) p n.sound; unlike = sym (some_alike-reordered p) ∙ n.unlike }) in
     (f, same-members l m (λ r. (among-reordered p r, among-reordered (back p) r)) e f)

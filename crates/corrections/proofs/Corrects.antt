@@ -10,6 +10,8 @@ use native.Mathlib.Omega.{arith}
 use borrow.Author.Tests.{le-ltb}
 use Rattle.lists.specs.Lists.{All, span, gather, given}
 use Rattle.market.specs.Faults.{drawn, unless_drawn}
+use Rattle.market.specs.declared.fault.Fault.{Fault}
+use Rattle.market.specs.declared.fault.Fault.TheVariants.{UnknownSymbol, BadValue, NotAscending}
 use Rattle.market.specs.Quotes.{row_tests, table_tests, row_for}
 use Rattle.market.specs.VendorQuotes.{quote_of, vendor_row_tests}
 use Rattle.market.specs.declared.quote.Quote.{Quote}
@@ -27,11 +29,11 @@ use Rattle.corrections.proofs.Winners.{Wins, winner-wins, some-wins}
 -- ---- the rows of the table ascend
 
 -- a row that draws neither 1 nor 2, before rows that ascend from it
-first-ascends : (least : ℕ) (q : Quote) (l : List Quote) → drawn (row_tests 0 q) ≡ 0 → least ≤ q.symbol → drawn (table_tests (q.symbol + 1) l) ≡ 0 → drawn (table_tests least (q ∷ l)) ≡ 0
+first-ascends : (least : ℕ) (q : Quote) (l : List Quote) → drawn (row_tests 0 q) ≡ None → least ≤ q.symbol → drawn (table_tests (q.symbol + 1) l) ≡ None → drawn (table_tests least (q ∷ l)) ≡ None
 first-ascends least q l e h d =
-    let a = none-drawn _ 0 _ e in
-    let b = none-drawn _ 1 _ a.1 in
-    test-fails _ 1 _ a.0 ∙ test-fails _ 2 _ b.0 ∙ test-fails _ 3 _ (le-ltb q.symbol least h) ∙ d
+    let a = none-drawn _ UnknownSymbol _ e in
+    let b = none-drawn _ BadValue _ a.1 in
+    test-fails _ UnknownSymbol _ a.0 ∙ test-fails _ BadValue _ b.0 ∙ test-fails _ NotAscending _ (le-ltb q.symbol least h) ∙ d
 
 -- what the table shows for a symbol, by the row that wins
 abbrev shows : Option VendorQuote → List Quote
@@ -40,38 +42,38 @@ shows o = given o [] (λ r. quote_of r ∷ [])
 abbrev at_symbol : List VendorQuote → ℕ → List Quote
 at_symbol rows s = shows (winner rows s)
 
-module _ (rows : List VendorQuote) (drew-none : drawn (vendor_tests rows) ≡ 0) where
+module _ (rows : List VendorQuote) (drew-none : drawn (vendor_tests rows) ≡ None) where
   -- a row given draws neither 1 nor 2
-  sound : (r : VendorQuote) → Among r rows → drawn (vendor_row_tests r) ≡ 0
-  sound r h = all-at (λ x. drawn (vendor_row_tests x) ≡ 0) r rows (draws-none rows drew-none).sound h
+  sound : (r : VendorQuote) → Among r rows → drawn (vendor_row_tests r) ≡ None
+  sound r h = all-at (λ x. drawn (vendor_row_tests x) ≡ None) r rows (draws-none rows drew-none).sound h
 
   -- from a symbol on
-  span-ascends : (n i least : ℕ) → least ≤ i → drawn (table_tests least (gather (at_symbol rows) (span i n))) ≡ 0
+  span-ascends : (n i least : ℕ) → least ≤ i → drawn (table_tests least (gather (at_symbol rows) (span i n))) ≡ None
   span-ascends zero i least h = no-tests
   span-ascends (suc n) i least h = go (winner rows i) (winner-wins rows i) (λ m. span-ascends n (suc i) m)
     where
       later : List Quote
       later = gather (at_symbol rows) (span (suc i) n)
 
-      go : (o : Option VendorQuote) → ((r : VendorQuote) → o ≡ Some r → Wins rows i r) → ((m : ℕ) → m ≤ suc i → drawn (table_tests m later) ≡ 0) → drawn (table_tests least (shows o ++ later)) ≡ 0
+      go : (o : Option VendorQuote) → ((r : VendorQuote) → o ≡ Some r → Wins rows i r) → ((m : ℕ) → m ≤ suc i → drawn (table_tests m later) ≡ None) → drawn (table_tests least (shows o ++ later)) ≡ None
       go None f on = on least (omega arith)
       go (Some r) f on =
           let w = f r refl in
           first-ascends least (quote_of r) later (sound r w.in_rows) (omega (arith, w.of-symbol)) (on (r.symbol + 1) (omega (arith, w.of-symbol)))
 
   -- so no check, update or builder refuses the table for its rows
-  pub checks-take-it : drawn (table_tests 0 (corrected_of rows)) ≡ 0
+  pub checks-take-it : drawn (table_tests 0 (corrected_of rows)) ≡ None
   unfolding corrected_of
   checks-take-it = span-ascends 256 0 0 (omega arith)
 
 -- nothing that is shown is refused: where a number is drawn, no row is
-pub shown-draws-nothing : (room n : ℕ) (rows : List VendorQuote) → drawn (table_tests 0 (rows_shown room n rows)) ≡ 0
+pub shown-draws-nothing : (room n : ℕ) (rows : List VendorQuote) → drawn (table_tests 0 (rows_shown room n rows)) ≡ None
 unfolding rows_shown
 shown-draws-nothing room n rows = go (correct_fault room n rows) refl
   where
-    go : (k : ℕ) → correct_fault room n rows ≡ k → drawn (table_tests 0 (unless_drawn k (corrected_of rows) [])) ≡ 0
-    go zero e = checks-take-it rows (not-refused room n rows e)
-    go (suc k) e = no-tests
+    go : (d : Option Fault) → correct_fault room n rows ≡ d → drawn (table_tests 0 (unless_drawn d (corrected_of rows) [])) ≡ None
+    go None e = checks-take-it rows (not-refused room n rows e)
+    go (Some f) e = no-tests
 
 -- ---- the table corrects
 
@@ -105,7 +107,7 @@ module _ (rows : List VendorQuote) where
         of-symbol = (winner-wins rows s w e).of-symbol;
       }
 
-  module _ (drew-none : drawn (vendor_tests rows) ≡ 0) where
+  module _ (drew-none : drawn (vendor_tests rows) ≡ None) where
     symbol-shown : (r : VendorQuote) → Among r rows → ShownIn (corrected_of rows) r.symbol
     symbol-shown r h = go (winner rows r.symbol) refl
       where
@@ -124,7 +126,7 @@ module _ (rows : List VendorQuote) where
 
 -- ---- and no other table does
 
-module _ (rows : List VendorQuote) (drew-none : drawn (vendor_tests rows) ≡ 0) where
+module _ (rows : List VendorQuote) (drew-none : drawn (vendor_tests rows) ≡ None) where
   -- two rows of a symbol of which neither supersedes the other are one
   one-newest : (a b : VendorQuote) → Among a rows → Among b rows → a.symbol ≡ b.symbol → supersedes a b ≡ false → supersedes b a ≡ false → a ≡ b
   one-newest a b h k s x y =

@@ -1,67 +1,67 @@
--- The number that the rows draw, test by test, and what it leaves of the table. Assumes nothing.
+-- What the rows draw, test by test, and what it leaves of the table. Assumes nothing.
 use Prim.Native.Nat.{ℕ, zero, suc, ◌+◌, ◌≤◌, ◌<◌}
 use native.Mathlib.Omega.{arith}
-use mathlib.Core.Bool.{true, false}
+use mathlib.Core.Bool.{Bool, true, false}
 use mathlib.Core.List.{List, [], ◌∷◌, ◌++◌}
 use Rattle.std.specs.declared.option.Option.{Option}
+use Rattle.std.specs.declared.option.Option.TheVariants.{None, Some}
+use Rattle.std.specs.declared.result.Result.TheVariants.{Ok, Err}
+use Rattle.std.specs.Bool.{then_some}
 use mathlib.Core.Path.{◌≡◌, refl, ap, ap₂, sym, ◌∙◌}
 use borrow.Author.Tests.{lt-ltb, le-ltb, ltb-false}
-use lib.ListN.{length, take}
-use lib.Seq.{take-length}
+use lib.ListN.{length}
 use Rattle.lists.specs.Lists.{span, gather, given}
-use Rattle.market.specs.Faults.{drawn, unless_drawn, ◌draws◌}
+use Rattle.market.specs.Faults.{drawn, first_drawn, ◌draws◌}
+use Rattle.market.specs.declared.fault.Fault.{Fault}
+use Rattle.market.specs.declared.fault.Fault.TheVariants.{ListTooShort, AlikeRows, TooManyRows}
 use Rattle.market.specs.Quotes.{listing}
 use Rattle.market.specs.VendorQuotes.{quote_of, vendor_row_tests}
 use Rattle.market.specs.declared.quote.Quote.{Quote}
-use Rattle.market.specs.declared.table.QuoteRows.{QuoteRows}
 use Rattle.market.specs.declared.vendor_quote.VendorQuote.{VendorQuote}
-use Rattle.market.proofs.Faults.{drawn-append, none-drawn, test-holds, test-fails, unless-some, unless-none}
+use Rattle.market.proofs.Faults.{drawn-append, none-drawn, test-holds, test-fails}
 use Rattle.corrections.specs.Corrections.{winner, corrected_of, some_alike, correct_fault, rows_shown, corrected_for}
 use Rattle.corrections.specs.Places.{stands_at, KeepsNewest, listed_from}
-use Rattle.corrections.proofs.NoneDrawn.{all-numbered}
-use Rattle.corrections.proofs.Rests.{rows_drew}
+use Rattle.corrections.proofs.Finding.{rows_drew}
 
 -- ---- the tests in their order
 
 -- where no number is drawn the table has 256 places, and at most 1,024 rows are given
-pub none-corrects : (room n : ℕ) (rows : List VendorQuote) → correct_fault room n rows ≡ 0 → (256 ≤ room) × (n ≤ 1024)
+pub none-corrects : (room n : ℕ) (rows : List VendorQuote) → correct_fault room n rows ≡ None → (256 ≤ room) × (n ≤ 1024)
 unfolding correct_fault
 none-corrects room n rows e =
-    let a = none-drawn _ 14 _ e in
-    let b = none-drawn _ 21 _ a.1 in
+    let a = none-drawn _ ListTooShort _ e in
+    let b = none-drawn _ TooManyRows _ a.1 in
     (ltb-false room 256 a.0, ltb-false 1024 n b.0)
 
+-- the last test
+alike-drew : (b : Bool) → then_some b AlikeRows ≡ drawn ((b draws AlikeRows) ∷ [])
+unfolding drawn
+alike-drew true = refl
+alike-drew false = refl
+
 module _ (room n : ℕ) (rows : List VendorQuote) where
-  pub short-table : room < 256 → 15 ≡ correct_fault room n rows
+  pub short_table : room < 256 → Some ListTooShort ≡ correct_fault room n rows
   unfolding correct_fault
-  short-table h = sym (test-holds _ 15 _ (lt-ltb room 256 h))
+  short_table h = sym (test-holds _ ListTooShort _ (lt-ltb room 256 h))
 
   module _ (long : 256 ≤ room) where
-    pub many-rows : 1024 < n → 22 ≡ correct_fault room n rows
+    pub many_rows : 1024 < n → Some TooManyRows ≡ correct_fault room n rows
     unfolding correct_fault
-    many-rows h = sym (test-fails _ 15 _ (le-ltb room 256 long) ∙ test-holds _ 22 _ (lt-ltb 1024 n h))
+    many_rows h = sym (test-fails _ ListTooShort _ (le-ltb room 256 long) ∙ test-holds _ TooManyRows _ (lt-ltb 1024 n h))
 
     module _ (few : n ≤ 1024) where
-      rows-first : correct_fault room n rows ≡ unless_drawn (rows_drew rows) (drawn ((some_alike rows draws 21) ∷ [])) (rows_drew rows)
+      rows-first : correct_fault room n rows ≡ first_drawn (rows_drew rows) (drawn ((some_alike rows draws AlikeRows) ∷ []))
       unfolding correct_fault
       rows-first =
-          test-fails _ 15 _ (le-ltb room 256 long)
-          ∙ test-fails _ 22 _ (le-ltb 1024 n few)
-          ∙ drawn-append (gather vendor_row_tests rows) ((some_alike rows draws 21) ∷ []) (all-numbered rows)
+          test-fails _ ListTooShort _ (le-ltb room 256 long)
+          ∙ test-fails _ TooManyRows _ (le-ltb 1024 n few)
+          ∙ drawn-append (gather vendor_row_tests rows) ((some_alike rows draws AlikeRows) ∷ [])
 
-      pub row-drew : (rows_drew rows ≡ 0 → ⊥) → rows_drew rows ≡ correct_fault room n rows
-      row-drew d = unless-some (rows_drew rows) _ _ d ∙ sym rows-first
+      pub row_drew : (f : Fault) → rows_drew rows ≡ Some f → Some f ≡ correct_fault room n rows
+      row_drew f d = sym (rows-first ∙ ap (λ (o : Option Fault). first_drawn o (drawn ((some_alike rows draws AlikeRows) ∷ []))) d)
 
-      module _ (good : rows_drew rows ≡ 0) where
-        then-alike : correct_fault room n rows ≡ drawn ((some_alike rows draws 21) ∷ [])
-        then-alike = rows-first ∙ sym (unless-none (rows_drew rows) _ _ good)
-
-        pub two-alike : some_alike rows ≡ true → 21 ≡ correct_fault room n rows
-        two-alike e = sym (then-alike ∙ test-holds _ 21 _ e)
-
-        pub none_alike : some_alike rows ≡ false → 0 ≡ correct_fault room n rows
-        unfolding drawn
-        none_alike e = sym (then-alike ∙ test-fails (some_alike rows) 21 [] e)
+      pub then_alike : rows_drew rows ≡ None → then_some (some_alike rows) AlikeRows ≡ correct_fault room n rows
+      then_alike d = alike-drew (some_alike rows) ∙ sym (rows-first ∙ ap (λ (o : Option Fault). first_drawn o (drawn ((some_alike rows draws AlikeRows) ∷ []))) d)
 
 -- ---- the rows that stand are those that win
 
@@ -75,18 +75,13 @@ listed-wins rows w k =
     same-gather (λ s. given (stands_at w s) [] (λ r. quote_of r ∷ [])) (λ s. given (winner rows s) [] (λ r. quote_of r ∷ [])) 0 256 256
     (λ s h. ap (λ (o : Option VendorQuote). given o [] (λ r. quote_of r ∷ [])) (k.wins s h)) (omega arith)
 
-none-corrected : corrected_of [] ≡ []
-unfolding corrected_of
-none-corrected = refl
+-- ---- what is answered
 
-shown_by : (fault k : ℕ) (rows : List VendorQuote) → k ≡ unless_drawn fault (length rows) 0 → corrected_of (take k rows) ≡ unless_drawn fault (corrected_of rows) []
-shown_by zero k rows e = rw (e, take-length rows)
-shown_by (suc fault) k rows e = rw e none-corrected
+module _ (room : ℕ) (rows : List VendorQuote) where
+  pub refused : (f : Fault) → correct_fault room (length rows) rows ≡ Some f → Err f ≡ corrected_for room (length rows) rows
+  unfolding corrected_for
+  refused f e = rw e refl
 
-pub corrected-is : (room k fault : ℕ) (rows : List VendorQuote) (w : List (Option VendorQuote)) (r : QuoteRows) → fault ≡ correct_fault room (length rows) rows →
-    k ≡ unless_drawn fault (length rows) 0 → KeepsNewest (take k rows) w → r ≡ listing (listed_from w) fault → r ≡ corrected_for room (length rows) rows
-unfolding rows_shown corrected_for
-corrected-is room k fault rows w r is-fault is-k keeps is-r =
-    is-r
-    ∙ ap (λ (l : List Quote). listing l fault) (listed-wins (take k rows) w keeps ∙ shown_by fault k rows is-k)
-    ∙ ap (λ (f : ℕ). listing (unless_drawn f (corrected_of rows) []) f) is-fault
+  pub corrected_is : (w : List (Option VendorQuote)) → correct_fault room (length rows) rows ≡ None → KeepsNewest rows w → Ok (listing (listed_from w)) ≡ corrected_for room (length rows) rows
+  unfolding rows_shown corrected_for
+  corrected_is w e keeps = rw e (ap (λ (l : List Quote). Ok (listing l)) (listed-wins rows w keeps))

@@ -35,12 +35,12 @@ pub lists-blank : (w : List (Option VendorQuote)) (blank : Quote) → blank ≡ 
 lists-blank w blank e = record { few = omega arith; count = refl; first = ap (replicate 257) e }
 
 -- once all symbols are through
-pub lists-all : (w : List (Option VendorQuote)) (rows : List Quote) (n i fault : ℕ) → 256 ≤ i → i ≤ 256 → Lists w rows n i → ◌≡◌ {A = QuoteRows} (record { rows = rows; count = n; fault = fault }) (listing (listed_from w) fault)
+pub lists-all : (w : List (Option VendorQuote)) (rows : List Quote) (n i : ℕ) → 256 ≤ i → i ≤ 256 → Lists w rows n i → ◌≡◌ {A = QuoteRows} (record { rows = rows; count = n }) (listing (listed_from w))
 unfolding listed_from
-lists-all w rows n i fault h k l =
+lists-all w rows n i h k l =
     let all : i ≡ 256 = omega arith in
-    ap₂ (λ (x : List Quote) (y : ℕ). record { rows = x; count = y; fault = fault }) l.first l.count
-    ∙ ap (λ (j : ℕ). listing (listed_to w j) fault) all
+    ap₂ (λ (x : List Quote) (y : ℕ). record { rows = x; count = y }) l.first l.count
+    ∙ ap (λ (j : ℕ). listing (listed_to w j)) all
 
 module _ (w : List (Option VendorQuote)) where
   listed_more : (i : ℕ) → i < 256 → listed_to w (i + 1) ≡ listed_to w i ++ listed_at w i

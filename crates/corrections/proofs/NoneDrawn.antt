@@ -1,71 +1,71 @@
 -- Rows that draw no number: each draws none, and no two are alike. And back; and what draws 21. Assumes nothing.
+use Rattle.std.specs.declared.option.Option.{Option}
+use Rattle.std.specs.declared.option.Option.TheVariants.{None, Some}
 use Prim.Native.Nat.{ℕ, zero, suc}
 use mathlib.Core.Path.{◌≡◌, refl, sym, ◌∙◌}
 use mathlib.Core.Bool.{Bool, true, false, ◌||◌, true≢false}
 use mathlib.Core.List.{List, [], ◌∷◌}
-use Rattle.std.specs.declared.option.Option.TheVariants.{Some}
 use Rattle.std.proofs.lemmas.Option.{none-some, same_Some}
 use Rattle.std.specs.Prelude.{slice_get}
 use Rattle.lists.specs.Lists.{All, gather}
-use Rattle.market.specs.Faults.{◌draws◌, drawn}
-use Rattle.market.specs.VendorQuotes.{quote_of, vendor_row_tests}
+use Rattle.market.specs.Faults.{◌draws◌, drawn, first_drawn}
+use Rattle.market.specs.declared.fault.Fault.{Fault}
+use Rattle.market.specs.declared.fault.Fault.TheVariants.{ListTooShort, AlikeRows, TooManyRows}
+use Rattle.market.specs.VendorQuotes.{vendor_row_tests}
 use Rattle.market.specs.declared.vendor_quote.VendorQuote.{VendorQuote}
-use Rattle.market.proofs.Faults.{Numbered, drawn-append, append-none, none-drawn, unless-none, test-holds, test-fails}
-use Rattle.market.proofs.Tables.{quote-laws}
+use Rattle.market.proofs.Faults.{drawn-append, append-none, none-drawn, test-holds, test-fails}
 use Rattle.corrections.specs.Claims.{Among}
 use Rattle.corrections.specs.Corrections.{alike, alike_among, some_alike, vendor_tests, correct_fault}
-use Rattle.corrections.proofs.Members.{all-at, all-gather}
+use Rattle.corrections.proofs.Members.{all-at}
 use Rattle.corrections.proofs.StrictOrder.{alike-sym}
 
 -- each row draws neither 1 nor 2, and no two draw 21
 pub record NoneDrawn (rows : List VendorQuote) : Type 0 where
-  pub sound : All (λ r. drawn (vendor_row_tests r) ≡ 0) rows
+  pub sound : All (λ r. drawn (vendor_row_tests r) ≡ None) rows
   pub unlike : some_alike rows ≡ false
 
 -- ---- 1 and 2
 
-pub no-tests : drawn [] ≡ 0
+pub no-tests : drawn [] ≡ None
 unfolding drawn
 no-tests = refl
 
-row-numbered : (r : VendorQuote) → All Numbered (vendor_row_tests r)
-row-numbered r = quote-laws.numbered 0 (quote_of r)
+-- where the first draws nothing the second counts
+second : (d e : Option Fault) → d ≡ None → first_drawn d e ≡ e
+second d e none = rw none refl
 
-pub all-numbered : (rows : List VendorQuote) → All Numbered (gather vendor_row_tests rows)
-all-numbered rows = all-gather vendor_row_tests Numbered row-numbered rows
-
-all_sound : (rows : List VendorQuote) → drawn (gather vendor_row_tests rows) ≡ 0 → All (λ r. drawn (vendor_row_tests r) ≡ 0) rows
+all_sound : (rows : List VendorQuote) → drawn (gather vendor_row_tests rows) ≡ None → All (λ r. drawn (vendor_row_tests r) ≡ None) rows
 all_sound [] e = tt
-all_sound (r ∷ rows) e = let d = append-none (vendor_row_tests r) (gather vendor_row_tests rows) (row-numbered r) e in (d.0, all_sound rows d.1)
+all_sound (r ∷ rows) e = let d = append-none (vendor_row_tests r) (gather vendor_row_tests rows) e in (d.0, all_sound rows d.1)
 
-sound_none : (rows : List VendorQuote) → All (λ r. drawn (vendor_row_tests r) ≡ 0) rows → drawn (gather vendor_row_tests rows) ≡ 0
+sound_none : (rows : List VendorQuote) → All (λ r. drawn (vendor_row_tests r) ≡ None) rows → drawn (gather vendor_row_tests rows) ≡ None
 sound_none [] a = no-tests
 sound_none (r ∷ rows) a =
-    drawn-append (vendor_row_tests r) (gather vendor_row_tests rows) (row-numbered r) ∙ sym (unless-none _ _ _ a.0) ∙ sound_none rows a.1
+    drawn-append (vendor_row_tests r) (gather vendor_row_tests rows) ∙ second _ _ a.0 ∙ sound_none rows a.1
 
 -- ---- then 21
 
 module _ (rows : List VendorQuote) where
   -- where no row draws a number, only 21 is left
-  then-alike : drawn (gather vendor_row_tests rows) ≡ 0 → drawn (vendor_tests rows) ≡ drawn ((some_alike rows draws 21) ∷ [])
-  then-alike e = drawn-append (gather vendor_row_tests rows) ((some_alike rows draws 21) ∷ []) (all-numbered rows) ∙ sym (unless-none _ _ _ e)
+  then-alike : drawn (gather vendor_row_tests rows) ≡ None → drawn (vendor_tests rows) ≡ drawn ((some_alike rows draws AlikeRows) ∷ [])
+  then-alike e = drawn-append (gather vendor_row_tests rows) ((some_alike rows draws AlikeRows) ∷ []) ∙ second _ _ e
 
-  pub draws-none : drawn (vendor_tests rows) ≡ 0 → NoneDrawn rows
+  pub draws-none : drawn (vendor_tests rows) ≡ None → NoneDrawn rows
   draws-none e =
-      let d = append-none (gather vendor_row_tests rows) ((some_alike rows draws 21) ∷ []) (all-numbered rows) e in
-      record { sound = all_sound rows d.0; unlike = (none-drawn (some_alike rows) 20 [] d.1).0 }
+      let d = append-none (gather vendor_row_tests rows) ((some_alike rows draws AlikeRows) ∷ []) e in
+      record { sound = all_sound rows d.0; unlike = (none-drawn (some_alike rows) AlikeRows [] d.1).0 }
 
-  pub none-draws : NoneDrawn rows → drawn (vendor_tests rows) ≡ 0
-  none-draws n = then-alike (sound_none rows n.sound) ∙ test-fails (some_alike rows) 21 [] n.unlike ∙ no-tests
+  pub none-draws : NoneDrawn rows → drawn (vendor_tests rows) ≡ None
+  none-draws n = then-alike (sound_none rows n.sound) ∙ test-fails (some_alike rows) AlikeRows [] n.unlike ∙ no-tests
 
   -- where each row is sound, two alike draw 21
-  pub alike-draws : drawn (gather vendor_row_tests rows) ≡ 0 → some_alike rows ≡ true → drawn (vendor_tests rows) ≡ 21
-  alike-draws e a = then-alike e ∙ test-holds (some_alike rows) 21 [] a
+  pub alike-draws : drawn (gather vendor_row_tests rows) ≡ None → some_alike rows ≡ true → drawn (vendor_tests rows) ≡ Some AlikeRows
+  alike-draws e a = then-alike e ∙ test-holds (some_alike rows) AlikeRows [] a
 
 -- rows that are not refused draw none
-pub not-refused : (room n : ℕ) (rows : List VendorQuote) → correct_fault room n rows ≡ 0 → drawn (vendor_tests rows) ≡ 0
+pub not-refused : (room n : ℕ) (rows : List VendorQuote) → correct_fault room n rows ≡ None → drawn (vendor_tests rows) ≡ None
 unfolding correct_fault
-not-refused room n rows e = (none-drawn _ 21 _ (none-drawn _ 14 _ e).1).1
+not-refused room n rows e = (none-drawn _ TooManyRows _ (none-drawn _ ListTooShort _ e).1).1
 
 -- ---- rows alike are one row
 

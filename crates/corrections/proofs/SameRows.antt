@@ -31,14 +31,14 @@ row_in (p ∷ t) s q e = go (eqb p.symbol s) refl e (row_in t s q)
     go false b e on = (later-among q p t (on e).0, (on e).1)
 
 -- where the rows ascend, a row of the table is its symbol's
-pub in_row : (least : ℕ) (t : List Quote) (q : Quote) → drawn (table_tests least t) ≡ 0 → Among q t → row_for t q.symbol ≡ Some q
+pub in_row : (least : ℕ) (t : List Quote) (q : Quote) → drawn (table_tests least t) ≡ None → Among q t → row_for t q.symbol ≡ Some q
 in_row least t q d h = go least t h.place d h.there
   where
     -- the first row's symbol is no later row's
-    apart : (p : Quote) (t : List Quote) → drawn (table_tests (p.symbol + 1) t) ≡ 0 → row_for t q.symbol ≡ Some q → p.symbol ≡ q.symbol → ⊥
+    apart : (p : Quote) (t : List Quote) → drawn (table_tests (p.symbol + 1) t) ≡ None → row_for t q.symbol ≡ Some q → p.symbol ≡ q.symbol → ⊥
     apart p t d e s = none-some q (sym (row_below (p.symbol + 1) t q.symbol d (omega arith)) ∙ e)
 
-    go : (least : ℕ) (t : List Quote) (i : ℕ) → drawn (table_tests least t) ≡ 0 → slice_get t i ≡ Some q → row_for t q.symbol ≡ Some q
+    go : (least : ℕ) (t : List Quote) (i : ℕ) → drawn (table_tests least t) ≡ None → slice_get t i ≡ Some q → row_for t q.symbol ≡ Some q
     go least [] i d e = absurd (none-some q e)
     go least (p ∷ t) zero d e = rw (same_Some p q e, eq-eqb q.symbol q.symbol refl)
     go least (p ∷ t) (suc i) d e =
@@ -56,7 +56,7 @@ gather-single : (l : List Quote) → gather (λ q. q ∷ []) l ≡ l
 gather-single [] = refl
 gather-single (q ∷ l) = ap (λ (k : List Quote). q ∷ k) (gather-single l)
 
-table-rows : (t : List Quote) → drawn (table_tests 0 t) ≡ 0 → all-rows (row_for t) ≡ t
+table-rows : (t : List Quote) → drawn (table_tests 0 t) ≡ None → all-rows (row_for t) ≡ t
 unfolding all-rows
 table-rows t d = ap all-rows (fun_ext (λ s. sym (table-row t d s))) ∙ by-symbol (λ s q. q ∷ []) t d ∙ gather-single t
 
@@ -66,7 +66,7 @@ same-option None (Some q) f g = g q refl
 same-option (Some q) p f g = sym (f q refl)
 
 -- two tables, where each row for a symbol of one is that of the other
-pub same_rows : (t u : List Quote) → drawn (table_tests 0 t) ≡ 0 → drawn (table_tests 0 u) ≡ 0 →
+pub same_rows : (t u : List Quote) → drawn (table_tests 0 t) ≡ None → drawn (table_tests 0 u) ≡ None →
     ((s : ℕ) (q : Quote) → row_for t s ≡ Some q → row_for u s ≡ Some q) → ((s : ℕ) (q : Quote) → row_for u s ≡ Some q → row_for t s ≡ Some q) → t ≡ u
 same_rows t u d e f g =
     sym (table-rows t d) ∙ ap all-rows (fun_ext (λ s. same-option (row_for t s) (row_for u s) (f s) (g s))) ∙ table-rows u e

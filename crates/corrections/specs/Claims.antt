@@ -1,4 +1,5 @@
 -- What request 5 of document 02 says of the table, sentence by sentence. Definitions only.
+use Rattle.std.specs.Prelude.{None}
 use Rattle.std.specs.Prelude.{ℕ, false, List, [], ◌∷◌, ◌≡◌}
 use Rattle.std.specs.Prelude.{Some}
 use Rattle.std.specs.Prelude.{slice_get}
@@ -29,7 +30,7 @@ pub record GivenAs (rows : List VendorQuote) (q : Quote) : Type 0 where
 -- the table that is made of these rows
 pub record Corrects (rows : List VendorQuote) (table : List Quote) : Type 0 where
   -- one ascending table: its rows draw no number
-  pub ascends : drawn (table_tests 0 table) ≡ 0
+  pub ascends : drawn (table_tests 0 table) ≡ None
   -- each symbol given is shown
   pub shown : (r : VendorQuote) → Among r rows → ShownIn table r.symbol
   -- every row shown is one of those given
@@ -47,10 +48,10 @@ pub data Reordered : List VendorQuote → List VendorQuote → Type 0 where
 -- what is proved of rows that draw no number
 pub record CorrectsQuotes : Type 0 where
   -- their table is made as the sentences above say
-  pub made : (rows : List VendorQuote) → drawn (vendor_tests rows) ≡ 0 → Corrects rows (corrected_of rows)
+  pub made : (rows : List VendorQuote) → drawn (vendor_tests rows) ≡ None → Corrects rows (corrected_of rows)
   -- these leave no choice
-  pub once : (rows : List VendorQuote) → drawn (vendor_tests rows) ≡ 0 → (t u : List Quote) → Corrects rows t → Corrects rows u → t ≡ u
+  pub once : (rows : List VendorQuote) → drawn (vendor_tests rows) ≡ None → (t u : List Quote) → Corrects rows t → Corrects rows u → t ≡ u
   -- in another order the rows draw no number either, and their table is the same
-  pub any_order : (l m : List VendorQuote) → Reordered l m → drawn (vendor_tests l) ≡ 0 → (drawn (vendor_tests m) ≡ 0) × (corrected_of m ≡ corrected_of l)
+  pub any_order : (l m : List VendorQuote) → Reordered l m → drawn (vendor_tests l) ≡ None → (drawn (vendor_tests m) ≡ None) × (corrected_of m ≡ corrected_of l)
   -- no check refuses the table for its rows
-  pub taken : (rows : List VendorQuote) → drawn (vendor_tests rows) ≡ 0 → drawn (table_tests 0 (corrected_of rows)) ≡ 0
+  pub taken : (rows : List VendorQuote) → drawn (vendor_tests rows) ≡ None → drawn (table_tests 0 (corrected_of rows)) ≡ None

@@ -1,11 +1,13 @@
 -- Corrected quotes: document 02, request 5, over document 01's rows of quotes. Definitions only.
 use Rattle.std.specs.Prelude.{ℕ, Bool, false, ◌&&◌, ◌||◌, cond, ltb, eqb, ℤ, pos, negsuc}
 use mathlib.Core.List.{List, [], ◌∷◌, ◌++◌, foldl}
-use Rattle.std.specs.Prelude.{Option, None, Some}
+use Rattle.std.specs.Prelude.{Option, None, Some, Result}
 use Rattle.std.specs.Int.Signed.{lt_z}
 use Rattle.std.specs.List.{list_any}
 use Rattle.lists.specs.Lists.{span, gather, given}
-use Rattle.market.specs.Faults.{Test, ◌draws◌, drawn, unless_drawn}
+use Rattle.market.specs.Faults.{Test, ◌draws◌, drawn, unless_drawn, ok_unless}
+use Rattle.market.specs.declared.fault.Fault.{Fault}
+use Rattle.market.specs.declared.fault.Fault.TheVariants.{ListTooShort, AlikeRows, TooManyRows}
 use Rattle.market.specs.Quotes.{listing}
 use Rattle.market.specs.VendorQuotes.{quote_of, vendor_row_tests}
 use Rattle.market.specs.declared.quote.Quote.{Quote}
@@ -63,20 +65,20 @@ some_alike (r ∷ rows) = alike_among r rows || some_alike rows
 
 -- 1 and 2 row by row, then 21 two rows alike
 abbrev pub vendor_tests : List VendorQuote → List Test
-vendor_tests rows = gather vendor_row_tests rows ++ ((some_alike rows draws 21) ∷ [])
+vendor_tests rows = gather vendor_row_tests rows ++ ((some_alike rows draws AlikeRows) ∷ [])
 
 -- 15 a lent table of fewer than 256 rows; 22 more than 1,024 rows, of which n are given; then those of the rows
 abbrev pub correct_tests : ℕ → ℕ → List VendorQuote → List Test
-correct_tests room n rows = (ltb room 256 draws 15) ∷ (ltb 1024 n draws 22) ∷ vendor_tests rows
+correct_tests room n rows = (ltb room 256 draws ListTooShort) ∷ (ltb 1024 n draws TooManyRows) ∷ vendor_tests rows
 
--- the number that the rows draw, or 0
-unfoldable pub correct_fault : ℕ → ℕ → List VendorQuote → ℕ
+-- what the rows draw
+unfoldable pub correct_fault : ℕ → ℕ → List VendorQuote → Option Fault
 correct_fault room n rows = drawn (correct_tests room n rows)
 
 -- the rows of the table: none where a number is drawn
 unfoldable pub rows_shown : ℕ → ℕ → List VendorQuote → List Quote
 rows_shown room n rows = unless_drawn (correct_fault room n rows) (corrected_of rows) []
 
--- the rows of the table, how many they are, and the number drawn, or 0
-unfoldable pub corrected_for : ℕ → ℕ → List VendorQuote → QuoteRows
-corrected_for room n rows = listing (rows_shown room n rows) (correct_fault room n rows)
+-- the rows of the table and how many they are, or what was drawn
+unfoldable pub corrected_for : ℕ → ℕ → List VendorQuote → Result QuoteRows Fault
+corrected_for room n rows = ok_unless (correct_fault room n rows) (listing (rows_shown room n rows))

@@ -4,17 +4,18 @@ ghost use Rattle.std.specs.Prelude.{◌≡◌, length};
 ghost use Rattle.corrections.specs.Corrections.{corrected_for};
 
 use crate::{faults, newest};
-use market::fault;
+use market::fault::Fault;
 use market::table::QuoteRows;
 use market::vendor_quote::VendorQuote;
 
-// The table of these rows, for a lent table of `room` rows. Where a number is drawn there are no
-// rows.
-pub fn corrected(rows: &[VendorQuote], room: usize) -> QuoteRows
+// The table of these rows, for a lent table of `room` rows.
+#[tactic(auto, using(crate::proofs::Drawing::refused, crate::proofs::Drawing::corrected_is))]
+pub fn corrected(rows: &[VendorQuote], room: usize) -> Result<QuoteRows, Fault>
     ensures { result ≡ corrected_for room (length rows.now) rows.now }
 {
-    let fault = faults::correct_fault(rows, room);
-    let count = fault::count_unless(fault, rows.len());
-    let kept = newest::newest(&rows[..count]);
-    newest::listed(&kept, fault)
+    if let Some(fault) = faults::correct_fault(rows, room) {
+        return Err(fault);
+    }
+    let kept = newest::newest(rows);
+    Ok(newest::listed(&kept))
 }

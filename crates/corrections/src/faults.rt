@@ -1,4 +1,4 @@
-// The numbers that the vendor's rows draw: 15 and 22 of the lists, 1 and 2 row by row, then 21.
+// What the vendor's rows draw: 15 and 22 of the lists, 1 and 2 row by row, then 21.
 ghost use Rattle.std.specs.Prelude.{◌≡◌, length};
 ghost use Rattle.lists.specs.Lists.{gather};
 ghost use Rattle.market.specs.Faults.{drawn};
@@ -6,22 +6,17 @@ ghost use Rattle.market.specs.VendorQuotes.{vendor_row_tests};
 ghost use Rattle.corrections.specs.Corrections.{alike_among, some_alike, correct_fault};
 
 use crate::order;
+use market::fault::Fault;
 use market::vendor_quote::VendorQuote;
 
 // How many rows are taken.
 const MOST: usize = 1024;
 
-// 1 and 2 of the rows, in their order, or 0.
-fn rows_fault(rows: &[VendorQuote]) -> u32
+// 1 and 2 of the rows, in their order.
+fn rows_fault(rows: &[VendorQuote]) -> Option<Fault>
     ensures { result ≡ drawn (gather vendor_row_tests rows.now) }
 {
-    for row in rows {
-        let fault = row.fault();
-        if fault != 0 {
-            return fault;
-        }
-    }
-    0
+    rows.iter().find_map(|row| row.fault())
 }
 
 // Is one of `others` like `row`?
@@ -43,19 +38,19 @@ fn some_alike(rows: &[VendorQuote]) -> bool
     false
 }
 
-// The number that the rows draw for a table of `room` rows, or 0.
-pub(crate) fn correct_fault(rows: &[VendorQuote], room: usize) -> u32
+// What the rows draw for a table of `room` rows.
+#[tactic(auto, using(crate::proofs::Drawing::short_table, crate::proofs::Drawing::many_rows, crate::proofs::Drawing::row_drew, crate::proofs::Drawing::then_alike))]
+pub(crate) fn correct_fault(rows: &[VendorQuote], room: usize) -> Option<Fault>
     ensures { result ≡ correct_fault room (length rows.now) rows.now }
 {
     if room < 256 {
-        return 15;
+        return Some(Fault::ListTooShort);
     }
     if rows.len() > MOST {
-        return 22;
+        return Some(Fault::TooManyRows);
     }
-    let fault = rows_fault(rows);
-    if fault != 0 {
-        return fault;
+    if let Some(fault) = rows_fault(rows) {
+        return Some(fault);
     }
-    if some_alike(rows) { 21 } else { 0 }
+    some_alike(rows).then_some(Fault::AlikeRows)
 }

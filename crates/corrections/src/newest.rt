@@ -32,9 +32,9 @@ pub(crate) fn newest(rows: &[VendorQuote]) -> [Option<VendorQuote>; 256]
     kept
 }
 
-// The rows that stand, in the order of their symbols, and a number.
-pub(crate) fn listed(kept: &[Option<VendorQuote>; 256], fault: u32) -> QuoteRows
-    ensures { result ≡ listing (listed_from kept.now) fault }
+// The rows that stand, in the order of their symbols.
+pub(crate) fn listed(kept: &[Option<VendorQuote>; 256]) -> QuoteRows
+    ensures { result ≡ listing (listed_from kept.now) }
 {
     let blank = Quote::blank();
     let mut rows = [blank; 257];
@@ -45,5 +45,5 @@ pub(crate) fn listed(kept: &[Option<VendorQuote>; 256], fault: u32) -> QuoteRows
             count += 1;
         }
     }
-    QuoteRows { rows, count, fault }
+    QuoteRows { rows, count }
 }

@@ -56,6 +56,8 @@ impl BrokerCost {
     {
         let mut net = gross;
         match self {
+            // A fee per share raises the price of a buy and lowers that of a sale: the side is a fact of
+            // the call, with no value beside it.
             BrokerCost::PerShare(val) if is_buy => net.price += val,
             BrokerCost::PerShare(val) => net.price -= val,
             BrokerCost::PctOfValue(pct) => net.budget *= 1.0 - pct,

@@ -9,30 +9,30 @@ impl<R, W> Job<'_, R, W> {
     pub(crate) fn lists(&self) -> Lists {
         let c = self.call;
         Lists {
-            tradable: list::quotes(self.line, c.first.at, c.first.count),
+            tradable: list::quotes(self.line, c.first),
             first: c.first.count,
-            fetched: list::quotes(self.line, c.fetched.at, c.fetched.count),
+            fetched: list::quotes(self.line, c.fetched),
             second: c.fetched.count,
-            weights: list::weights(self.line, c.weights.at, c.weights.count),
+            weights: list::weights(self.line, c.weights),
             third: c.weights.count,
             room: c.room,
         }
     }
 
     pub(crate) fn costs(&self) -> TradeCosts {
-        list::costs(self.line, self.call.costs.at, self.call.costs.count)
+        list::costs(self.line, self.call.costs)
     }
 
     pub(crate) fn orders(&self) -> Orders {
         let c = self.call;
         Orders {
-            list: list::orders(self.line, c.orders.at, c.orders.count),
+            list: list::orders(self.line, c.orders),
             count: c.orders.count,
             room: c.room,
         }
     }
 
     pub(crate) fn vendors(&self) -> [VendorQuote; 1100] {
-        list::vendors(self.line, self.call.vendors.at, self.call.vendors.count)
+        list::vendors(self.line, self.call.vendors)
     }
 }

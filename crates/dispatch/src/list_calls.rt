@@ -5,8 +5,8 @@ use arrays::{Lent, clock, correct, read};
 use broker::state::UistBroker;
 use calls::call::Call;
 use calls::verb::Verb;
-use reads::uist::ListRead;
-use report::form::{Form, judged_rows};
+use market::fault::{Fault, ok_unless};
+use report::form::{Form, first_rows};
 use std::io;
 use std::io::Write;
 use std::time::CpuClock;
@@ -26,9 +26,9 @@ pub fn is_listed(c: &Call) -> bool {
     )
 }
 
-// What a read answers: the list's first rows, or the number that was drawn.
-fn rows<T: Copy>(x: &Lent<ListRead, [T; 1024]>) -> Form<Result<&[T], u32>> {
-    judged_rows(x.answer.fault, &x.list, x.answer.count)
+// What is answered by a list: its first rows, or what was drawn.
+fn rows<T: Copy>(x: &Lent<Result<usize, Fault>, [T; 1024]>) -> Form<Result<&[T], Fault>> {
+    first_rows(x.answer, &x.list)
 }
 
 impl<R: CpuClock, W: Write> Job<'_, R, W> {
@@ -36,26 +36,23 @@ impl<R: CpuClock, W: Write> Job<'_, R, W> {
         let orders = self.orders();
         let from = clock::now(self.rt);
         let sent = arrays::send_on(*b, &orders);
-        let answer = judged_rows(sent.answer.fault, &sent.list, orders.count);
-        let micros = self.answer(from, &answer)?;
-        *b = sent.answer.broker;
+        let events = ok_unless(sent.answer.fault, orders.count);
+        let micros = self.answer(from, &first_rows(events, &sent.list))?;
+        *b = sent.answer.state;
         Ok(micros)
     }
 
     fn walk(&mut self, b: &UistBroker) -> io::Result<u64> {
         let lists = self.lists();
         let from = clock::now(self.rt);
-        let walked = arrays::walk_on(*b, &lists);
-        let answer = judged_rows(walked.answer.fault, &walked.list, walked.answer.count);
-        self.answer(from, &answer)
+        self.answer(from, &rows(&arrays::walk_on(*b, &lists)))
     }
 
     fn correct(&mut self) -> io::Result<u64> {
         let vendors = self.vendors();
         let from = clock::now(self.rt);
-        let x = correct::correct_on(&vendors, self.call.vendors.count, self.call.room);
-        let answer = judged_rows(x.answer.fault, &x.list, x.answer.rows);
-        self.answer(from, &answer)
+        let corrected = correct::correct_on(&vendors, self.call.vendors.count, self.call.room);
+        self.answer(from, &rows(&corrected))
     }
 
     fn read(&mut self, b: &UistBroker) -> io::Result<u64> {

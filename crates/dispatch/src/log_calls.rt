@@ -5,9 +5,10 @@ use broker::state::UistBroker;
 use calls::call::Call;
 use calls::verb::Verb;
 use lent::uist;
+use market::fault::ok_unless;
 use market::trade::Trade;
 use report::answer::{Checked, Updated};
-use report::form::{Form, judged};
+use report::form::Form;
 use std::io;
 use std::io::Write;
 use std::time::CpuClock;
@@ -21,13 +22,14 @@ pub fn needs_log(c: &Call) -> bool {
 }
 
 impl<R: CpuClock, W: Write> Job<'_, R, W> {
+    // Where no broker is made, the one that every call refuses is kept.
     fn build(&mut self, b: &mut UistBroker, log: &[Trade]) -> io::Result<u64> {
         let lists = self.lists();
         let costs = self.costs();
         let from = clock::now(self.rt);
         let built = arrays::build_on(costs, self.call.lot, &lists, log);
-        let micros = self.answer(from, &Form(judged(built.fault, "built")))?;
-        *b = built.broker;
+        let micros = self.answer(from, &Form(built.map(|_| "built")))?;
+        *b = built.unwrap_or(UistBroker::none());
         Ok(micros)
     }
 
@@ -40,7 +42,7 @@ impl<R: CpuClock, W: Write> Job<'_, R, W> {
             traded: x.traded,
             queued: x.queued,
         };
-        let answer = Form(judged(x.fault, checked));
+        let answer = Form(ok_unless(x.fault, checked));
         writeln!(self.out, " {answer}")?;
         Ok(timed.micros)
     }
@@ -54,21 +56,21 @@ impl<R: CpuClock, W: Write> Job<'_, R, W> {
             total: x.total,
             events: &timed.answer.list[..x.sent.min(1024)],
         };
-        let answer = Form(judged(x.fault, updated));
+        let answer = Form(ok_unless(x.fault, updated));
         writeln!(self.out, " {answer}")?;
         Ok(timed.micros)
     }
 
     fn basis(&mut self, b: &UistBroker, log: &[Trade]) -> io::Result<u64> {
         let from = clock::now(self.rt);
-        let x = uist::cost_basis(*b, log, self.call.symbol);
-        self.answer(from, &Form(judged(x.fault, x.amount)))
+        let basis = uist::cost_basis(*b, log, self.call.symbol);
+        self.answer(from, &Form(basis))
     }
 
     fn turnover(&mut self, b: &UistBroker, log: &[Trade]) -> io::Result<u64> {
         let from = clock::now(self.rt);
-        let x = uist::turnover(*b, log);
-        self.answer(from, &Form(judged(x.fault, x.value)))
+        let turnover = uist::turnover(*b, log);
+        self.answer(from, &Form(turnover))
     }
 
     // A call that the log is lent to. Its lists take much of the stack, so they are no part of the frame

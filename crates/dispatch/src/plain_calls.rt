@@ -1,13 +1,8 @@
 // The calls that change nothing and are answered by no list.
-use broker::read::FloatRead;
 use broker::state::UistBroker;
 use calls::call::Call;
 use calls::verb::Verb;
 use report::answer::Reply;
-
-fn rounded(value: f64) -> Reply {
-    Reply::Float(FloatRead { value, fault: 0 })
-}
 
 // The reads of no symbol, and rounding.
 fn figure(b: &UistBroker, c: &Call) -> Reply {
@@ -21,8 +16,8 @@ fn figure(b: &UistBroker, c: &Call) -> Reply {
             Reply::Impact(b.trade_impact_total(c.amount, c.second, c.is_buy))
         }
         Verb::CalculateTradeCosts => Reply::Float(b.calculate_trade_costs(c.amount, c.second)),
-        Verb::Floor => rounded(floats::floor(c.amount)),
-        _ => rounded(floats::ceil(c.amount)),
+        Verb::Floor => Reply::Float(Ok(floats::floor(c.amount))),
+        _ => Reply::Float(Ok(floats::ceil(c.amount))),
     }
 }
 

@@ -1,12 +1,17 @@
 -- What counts that hold together obey. Assumes nothing.
-use Rattle.std.proofs.Common.{◌≡◌, ℕ, ◌+◌, ◌<◌, ◌≤◌, Bool, true, false, not, ◌||◌, eqb, ltb, [], ◌∷◌, set, sym, refl, ap, ◌∙◌, ap₂, arith, ltb-false, le-ltb, lt-ltb, eqb-true}
+use Rattle.std.specs.declared.option.Option.{Option}
+use Rattle.std.specs.declared.option.Option.TheVariants.{None}
+use Rattle.std.specs.Option.{option_or}
+use Rattle.std.proofs.Common.{◌≡◌, ℕ, ◌+◌, ◌<◌, ◌≤◌, Bool, true, false, not, ◌||◌, eqb, ltb, List, [], ◌∷◌, set, sym, refl, ap, ◌∙◌, ap₂, arith, ltb-false, le-ltb, lt-ltb, eqb-true}
 use borrow.Author.Tests.{eqb-false}
 use Rattle.market.specs.Faults.{◌draws◌, drawn}
+use Rattle.market.specs.declared.fault.Fault.{Fault}
+use Rattle.market.specs.declared.fault.Fault.TheVariants.{LogFull, BookFull, Unsound}
 use Rattle.market.specs.Orders.{order_tests}
 use Rattle.market.specs.declared.order.Order.{Order}
-use Rattle.market.proofs.Faults.{order-numbered, append-none, none-drawn}
+use Rattle.market.proofs.Faults.{drawn-append, append-none, none-drawn}
 use Rattle.orders.specs.Orders.{book_width}
-use Rattle.exchange.specs.State.{waiting_row, broken_of, broken_fault, log_fault, room_of}
+use Rattle.exchange.specs.State.{waiting_row, broken_of, broken_test, broken_fault, log_fault, room_of}
 use Rattle.exchange.specs.Insert.{taken_one, has_room, join_of, insert_tests, joined}
 use Rattle.exchange.specs.declared.state.Booked.{Booked}
 use Rattle.exchange.specs.declared.state.Counts.{Counts}
@@ -46,26 +51,26 @@ pub sound-not-broken : {c : Counts} → Sound c → broken_of c ≡ false
 sound-not-broken s =
     simp (le-ltb _ _ s.logs, le-ltb _ _ s.bounded, le-ltb _ _ s.numbers, le-ltb _ _ s.together)
 
--- the same by the number
-pub fault-sound : (c : Counts) → broken_fault c ≡ 0 → Sound c
-fault-sound c e = sound-facts c (none-drawn (broken_of c) 15 [] e).0
+-- the same by what is drawn
+pub fault-sound : (c : Counts) → broken_fault c ≡ None → Sound c
+fault-sound c e = sound-facts c (none-drawn (broken_of c) Unsound [] e).0
 
--- of such counts no more orders rest than the book has places
-pub few_rest : (c : Counts) → broken_fault c ≡ 0 → c.resting ≤ 1024
-few_rest c e = omega (arith, (fault-sound c e).together)
+-- of such counts no more orders rest and wait than the book has places
+pub few_booked : (c : Counts) → broken_fault c ≡ None → c.resting + c.waits ≤ 1024
+few_booked c e = (fault-sound c e).together
 
-pub sound-fault : {c : Counts} → Sound c → broken_fault c ≡ 0
+pub sound-fault : {c : Counts} → Sound c → broken_fault c ≡ None
 unfolding drawn
-sound-fault s = ap (λ (x : Bool). drawn ((x draws 16) ∷ [])) (sound-not-broken s)
+sound-fault s = ap (λ (x : Bool). drawn ((x draws Unsound) ∷ [])) (sound-not-broken s)
 
 not-false : (b : Bool) → not b ≡ false → b ≡ true
 not-false true h = refl
 not-false false h = sym h
 
 -- no 16 for a log of this length
-pub log_facts : (c : Counts) (n : ℕ) → log_fault c n ≡ 0 → (n ≡ c.room) × (broken_of c ≡ false)
+pub log_facts : (c : Counts) (n : ℕ) → log_fault c n ≡ None → (n ≡ c.room) × (broken_of c ≡ false)
 log_facts c n e =
-    let h = (none-drawn (not (eqb n c.room) || broken_of c) 15 [] e).0 in (
+    let h = (none-drawn (not (eqb n c.room) || broken_of c) Unsound [] e).0 in (
       eqb-true n c.room (not-false _ (or_left (not (eqb n c.room)) (broken_of c) h)),
       or_right (not (eqb n c.room)) (broken_of c) h,
     )
@@ -78,19 +83,25 @@ pub record Room (c : Counts) : Type 0 where
   pub rows : c.taken < c.room
   pub places : c.resting + c.waits < 1024
 
-pub room-facts : (c : Counts) → Sound c → drawn (room_of c) ≡ 0 → Room c
+pub room-facts : (c : Counts) → Sound c → drawn (room_of c) ≡ None → Room c
 room-facts c s e =
-    let a = none-drawn (eqb c.taken c.room) 9 _ e in
-    let b = none-drawn (eqb (c.resting + c.waits) book_width) 10 _ a.1 in
+    let a = none-drawn (eqb c.taken c.room) LogFull _ e in
+    let b = none-drawn (eqb (c.resting + c.waits) book_width) BookFull _ a.1 in
     let t = eqb-false c.taken c.room a.0 in
     let n = eqb-false (c.resting + c.waits) book_width b.0 in
     record { sound = s; rows = omega (arith, s.bounded); places = omega (arith, s.together) }
 
--- an insertion that draws no number
-pub insert-facts : (c : Counts) (o : Order) → drawn (insert_tests c o) ≡ 0 → Room c
+-- an insertion that draws nothing
+pub insert-facts : (c : Counts) (o : Order) → drawn (insert_tests c o) ≡ None → Room c
 insert-facts c o e =
-    let a = none-drawn (broken_of c) 15 _ e in
-    room-facts c (sound-facts c a.0) (append-none (order_tests o) (room_of c) (order-numbered o) a.1).1
+    let a = none-drawn (broken_of c) Unsound _ e in
+    room-facts c (sound-facts c a.0) (append-none (order_tests o) (room_of c) a.1).1
+
+-- 16, then 1 and 2, then 10 and 11
+pub in_turn : (c : Counts) (o : Order) → option_or (option_or (broken_fault c) (drawn (order_tests o))) (drawn (room_of c)) ≡ drawn (insert_tests c o)
+in_turn c o =
+    ap (λ (d : Option Fault). option_or d (drawn (room_of c))) (sym (drawn-append (broken_test c ∷ []) (order_tests o)))
+    ∙ sym (drawn-append (broken_test c ∷ order_tests o) (room_of c))
 
 -- the step's own test
 pub record Free (c : Counts) : Type 0 where
@@ -115,3 +126,16 @@ module _ (e : UistV1) (j : Joining) (p : j ≡ join_of e.counts) (f : Free e.cou
 
   pub join-counts : j.counts ≡ taken_one e.counts
   join-counts = ap (λ (x : Joining). x.counts) (p ∙ joins e.counts f)
+
+module _ (e : UistV1) (o : Order) (n : drawn (insert_tests e.counts o) ≡ None) where
+  free : Free e.counts
+  free = let r = insert-facts e.counts o n in record { place = r.places; row = r.rows }
+
+  -- where nothing is drawn the counts give a place of the book
+  pub join_fits : (join_of e.counts).at < 1024
+  join_fits = join-place e (join_of e.counts) refl free
+
+  -- and the state with the order there, and with the counts after it, is the one that the order joined
+  pub joins_by : record { book = set e.book (join_of e.counts).at (waiting_row o); counts = (join_of e.counts).counts } ≡ joined e o
+  joins_by =
+      ap₂ (λ (l : List Booked) (c : Counts). record { book = l; counts = c }) (join-book e (join_of e.counts) refl free o (waiting_row o) refl) (join-counts e (join_of e.counts) refl free)

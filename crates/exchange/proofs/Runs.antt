@@ -1,18 +1,21 @@
 -- The theorem over lists of an exchange's calls: the program's definitions meet the ledger's, call by call, and the ledger has the claim.
 -- Assumes nothing.
-use Rattle.std.proofs.Common.{◌≡◌, ℕ, zero, suc, ◌+◌, ◌^◌, ◌<◌, true, false, not, ◌||◌, eqb, List, [], ◌∷◌, ◌++◌, length, take, sym, refl, ap, ◌∙◌, subst, ap₂, arith, eq-eqb}
+use Rattle.std.proofs.Common.{◌≡◌, ℕ, ◌+◌, ◌^◌, ◌<◌, true, false, not, ◌||◌, eqb, List, [], ◌∷◌, ◌++◌, length, take, sym, refl, ap, ◌∙◌, subst, ap₂, arith, eq-eqb}
+use Rattle.std.specs.declared.option.Option.{Option}
 use Rattle.std.specs.declared.option.Option.TheVariants.{None, Some}
 use lib.ListN.{length-replicate}
 use borrow.Author.Tests.{eqb-false}
 use Rattle.lists.specs.Lists.{over, stored}
 use Rattle.lists.proofs.Over.{length_over, take-over, stored-over}
 use Rattle.market.specs.Faults.{◌draws◌, drawn, unless_drawn}
+use Rattle.market.specs.declared.fault.Fault.{Fault}
+use Rattle.market.specs.declared.fault.Fault.TheVariants.{LogFull, BookFull, Unsound}
 use Rattle.market.specs.Orders.{order_tests}
 use Rattle.market.specs.Quotes.{table_tests, row_for}
 use Rattle.market.specs.declared.order.Order.{Order}
 use Rattle.market.specs.declared.quote.Quote.{Quote}
 use Rattle.market.specs.declared.trade.Trade.{Trade}
-use Rattle.market.proofs.Faults.{order-numbered, append-none, none-drawn}
+use Rattle.market.proofs.Faults.{append-none, none-drawn}
 use Rattle.orders.specs.Orders as Ledger
 use Rattle.orders.specs.Orders.{Taken, plain, Orders, no_orders, resting_in, book_width, room_tests, take_on, erase, fills_of}
 use Rattle.orders.proofs.Shape.{Shape, Kept, kept, quiet, acting, erasing}
@@ -48,23 +51,23 @@ module _ (l₀ : List Trade) (s : Held) (b : Orders) (m : Meets l₀ s b) where
 
   -- ---- insertion
 
-  insert-number : (o : Order) → drawn (insert_tests s.exchange.counts o) ≡ drawn (take_tests (length l₀) b o)
+  insert-fault : (o : Order) → drawn (insert_tests s.exchange.counts o) ≡ drawn (take_tests (length l₀) b o)
   unfolding drawn
-  insert-number o =
+  insert-fault o =
       let r = m.books in
       let c = s.exchange.counts in
-      ap (λ t. drawn ((t draws 16) ∷ (order_tests o ++ room_tests c.room book_width c.taken (c.resting + c.waits)))) unbroken
-      ∙ ap₂ (λ x y. drawn (order_tests o ++ (x draws 10) ∷ (y draws 11) ∷ []))
+      ap (λ t. drawn ((t draws Unsound) ∷ (order_tests o ++ room_tests c.room book_width c.taken (c.resting + c.waits)))) unbroken
+      ∙ ap₂ (λ x y. drawn (order_tests o ++ (x draws LogFull) ∷ (y draws BookFull) ∷ []))
       (ap₂ eqb r.taken_is r.room-is)
       (ap₂ (λ x y. eqb (x + y) book_width) r.rest-count r.wait-count)
 
-  taken-by : (o : Order) (n : ℕ) → drawn (take_tests (length l₀) b o) ≡ n →
+  taken-by : (o : Order) (n : Option Fault) → drawn (take_tests (length l₀) b o) ≡ n →
       Meets l₀ (record { exchange = unless_drawn n (joined s.exchange o) s.exchange; log = s.log }) (unless_drawn n (take_on (plain o) b) b)
-  taken-by o (suc n) e = m
-  taken-by o zero e =
-      let room-none = (append-none (order_tests o) _ (order-numbered o) e).1 in
-      let ten = none-drawn (eqb (length b.booked + length b.waiting) (length l₀)) 9 _ room-none in
-      let eleven = none-drawn (eqb (resting_in b.booked + length b.waiting) book_width) 10 [] ten.1 in
+  taken-by o (Some n) e = m
+  taken-by o None e =
+      let room-none = (append-none (order_tests o) _ e).1 in
+      let ten = none-drawn (eqb (length b.booked + length b.waiting) (length l₀)) LogFull _ room-none in
+      let eleven = none-drawn (eqb (resting_in b.booked + length b.waiting) book_width) BookFull [] ten.1 in
       let p = eqb-false (length b.booked + length b.waiting) (length l₀) ten.0 in
       let q = eqb-false (resting_in b.booked + length b.waiting) book_width eleven.0 in
       record {
@@ -77,11 +80,11 @@ module _ (l₀ : List Trade) (s : Held) (b : Orders) (m : Meets l₀ s b) where
   insert-meets o =
       let n = drawn (take_tests (length l₀) b o) in
       subst (λ k. Meets l₀ (record { exchange = unless_drawn k (joined s.exchange o) s.exchange; log = s.log }) (unless_drawn n (take_on (plain o) b) b))
-      (sym (insert-number o)) (taken-by o n refl)
+      (sym (insert-fault o)) (taken-by o n refl)
 
   insert-answer : (o : Order) → answer s (insert o) ≡ ledger_answer (length l₀) b (insert o)
   unfolding insert_of
-  insert-answer o = ap (λ n. record { traded = 0; fault = n }) (insert-number o)
+  insert-answer o = ap (λ n. record { traded = 0; fault = n }) (insert-fault o)
 
   -- ---- deletion
 
@@ -98,24 +101,24 @@ module _ (l₀ : List Trade) (s : Held) (b : Orders) (m : Meets l₀ s b) where
   log-length : length s.log ≡ length l₀
   log-length = ap length m.log ∙ length_over b.trades l₀ (omega (arith, m.books.fit.traded, m.books.fit.room-left))
 
-  pub no-sixteen : drawn (log_test s.exchange.counts (length s.log) ∷ []) ≡ 0
+  pub no-sixteen : drawn (log_test s.exchange.counts (length s.log) ∷ []) ≡ None
   unfolding drawn
-  no-sixteen = ap₂ (λ x y. drawn (((not x || y) draws 16) ∷ [])) (eq-eqb _ _ (log-length ∙ sym m.books.room-is)) unbroken
+  no-sixteen = ap₂ (λ x y. drawn (((not x || y) draws Unsound) ∷ [])) (eq-eqb _ _ (log-length ∙ sym m.books.room-is)) unbroken
 
-  tick-number : (rows : List Quote) → drawn (lent_tests s.exchange rows s.log) ≡ drawn (table_tests 0 rows)
+  tick-fault : (rows : List Quote) → drawn (lent_tests s.exchange rows s.log) ≡ drawn (table_tests 0 rows)
   unfolding drawn
-  tick-number rows =
-      ap₂ (λ x y. drawn (((not x || y) draws 16) ∷ table_tests 0 rows)) (eq-eqb _ _ (log-length ∙ sym m.books.room-is)) unbroken
+  tick-fault rows =
+      ap₂ (λ x y. drawn (((not x || y) draws Unsound) ∷ table_tests 0 rows)) (eq-eqb _ _ (log-length ∙ sym m.books.room-is)) unbroken
 
-  ticked-by : (rows : List Quote) → length l₀ < 2 ^ 64 → (n : ℕ) →
+  ticked-by : (rows : List Quote) → length l₀ < 2 ^ 64 → (n : Option Fault) →
       Meets l₀
       (record {
         exchange = unless_drawn n (ticked s.exchange (row_for rows)) s.exchange;
         log = unless_drawn n (stored s.log s.exchange.counts.logged (trades_of (row_for rows) (resting_of s.exchange))) s.log;
       })
       (unless_drawn n (Ledger.tick rows b) b)
-  ticked-by rows h (suc n) = m
-  ticked-by rows h zero =
+  ticked-by rows h (Some n) = m
+  ticked-by rows h None =
       record {
         books = books-tick s.exchange (length l₀) b m.books rows h;
         log =
@@ -125,12 +128,12 @@ module _ (l₀ : List Trade) (s : Held) (b : Orders) (m : Meets l₀ s b) where
 
   tick-meets : (rows : List Quote) → length l₀ < 2 ^ 64 → Meets l₀ (step s (tick rows)) (ledger_step (length l₀) b (tick rows))
   unfolding lent_tick lent_log
-  tick-meets rows h = rw (tick-number rows) (ticked-by rows h (drawn (table_tests 0 rows)))
+  tick-meets rows h = rw (tick-fault rows) (ticked-by rows h (drawn (table_tests 0 rows)))
 
   tick-answer : (rows : List Quote) → answer s (tick rows) ≡ ledger_answer (length l₀) b (tick rows)
   unfolding lent_tick
   tick-answer rows =
-      ap₂ (λ n t. record { traded = unless_drawn n (length t) 0; fault = n }) (tick-number rows) (books-trades s.exchange (length l₀) b m.books rows)
+      ap₂ (λ n t. record { traded = unless_drawn n (length t) 0; fault = n }) (tick-fault rows) (books-trades s.exchange (length l₀) b m.books rows)
 
   -- ---- any call
 
@@ -179,13 +182,13 @@ ledger-last : (room : ℕ) (b : Orders) (cs : List Call) (c : Call) → ledger_r
 ledger-last room b [] c = refl
 ledger-last room b (d ∷ cs) c = ledger-last room (ledger_step room b d) cs c
 
-kept-unless : (n : ℕ) (b d : Orders) (new : List Taken) → Kept b new d → Kept b (unless_drawn n new []) (unless_drawn n d b)
-kept-unless zero b d new k = k
-kept-unless (suc n) b d new k = kept b
+kept-unless : (n : Option Fault) (b d : Orders) (new : List Taken) → Kept b new d → Kept b (unless_drawn n new []) (unless_drawn n d b)
+kept-unless None b d new k = k
+kept-unless (Some n) b d new k = kept b
 
-tick-shape : (b : Orders) (rows : List Quote) (n : ℕ) → drawn (table_tests 0 rows) ≡ n → Shape exchange_calls b (tick rows) [] (unless_drawn n (Ledger.tick rows b) b)
-tick-shape b rows zero e = acting exchange_calls b _ (tick rows) [] rows (λ n. refl) (ap (λ n. unless_drawn n (Some rows) None) e) (kept (Ledger.tick rows b))
-tick-shape b rows (suc n) e = quiet exchange_calls b _ (tick rows) [] (λ n. refl) (ap (λ n. unless_drawn n (Some rows) None) e) (kept b)
+tick-shape : (b : Orders) (rows : List Quote) (n : Option Fault) → drawn (table_tests 0 rows) ≡ n → Shape exchange_calls b (tick rows) [] (unless_drawn n (Ledger.tick rows b) b)
+tick-shape b rows None e = acting exchange_calls b _ (tick rows) [] rows (λ n. refl) (ap (λ n. unless_drawn n (Some rows) None) e) (kept (Ledger.tick rows b))
+tick-shape b rows (Some n) e = quiet exchange_calls b _ (tick rows) [] (λ n. refl) (ap (λ n. unless_drawn n (Some rows) None) e) (kept b)
 
 step-shape : (room : ℕ) (b : Orders) (c : Call) → Shape exchange_calls b c (takes_in room b c) (ledger_step room b c)
 step-shape room b (insert o) =

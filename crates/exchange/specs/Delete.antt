@@ -2,11 +2,11 @@
 use Rattle.std.specs.Prelude.{ℕ, ◌+◌, ◌-◌, Bool, take, ◌==◌}
 use Rattle.lists.specs.Lists.{over, without, first_from, given}
 use Rattle.market.specs.Faults.{unless_drawn}
+use Rattle.market.specs.declared.fault.After.{After}
 use Rattle.exchange.specs.State.{broken_fault, resting_of}
 use Rattle.exchange.specs.declared.state.Booked.{Booked}
 use Rattle.exchange.specs.declared.state.Counts.{Counts}
 use Rattle.exchange.specs.declared.state.UistV1.{UistV1}
-use Rattle.exchange.specs.declared.delete.Deleted.{Deleted}
 
 abbrev pub has_number : ℕ → Booked → Bool
 has_number n b = b.id == n
@@ -24,7 +24,7 @@ removed_of e i =
     }
 
 -- 16; else the resting order of that number leaves the book. Deleting an unknown or waiting order does nothing
-unfoldable pub delete_of : UistV1 → ℕ → Deleted
+unfoldable pub delete_of : UistV1 → ℕ → After UistV1
 delete_of e n =
     let m = broken_fault e.counts in
-    record { exchange = unless_drawn m (given (first_from 0 (has_number n) (resting_of e)) e (removed_of e)) e; fault = m }
+    record { state = unless_drawn m (given (first_from 0 (has_number n) (resting_of e)) e (removed_of e)) e; fault = m }

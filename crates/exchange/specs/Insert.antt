@@ -1,6 +1,7 @@
 -- Insertion: document 01, section 3, and the sender's numbers of a direct insertion. Definitions only.
 use Rattle.std.specs.Prelude.{◌+◌, Bool, cond, ◌&&◌, List, ◌∷◌, ◌++◌, nat_lt, slice_set}
 use Rattle.market.specs.Faults.{Test, drawn, unless_drawn}
+use Rattle.market.specs.declared.fault.After.{After}
 use Rattle.market.specs.Orders.{order_tests}
 use Rattle.market.specs.declared.order.Order.{Order}
 use Rattle.orders.specs.Orders.{book_width}
@@ -8,7 +9,6 @@ use Rattle.exchange.specs.State.{broken_test, room_of, waiting_row}
 use Rattle.exchange.specs.declared.state.Counts.{Counts}
 use Rattle.exchange.specs.declared.state.UistV1.{UistV1}
 use Rattle.exchange.specs.declared.insert.Joining.{Joining}
-use Rattle.exchange.specs.declared.insert.Inserted.{Inserted}
 
 -- 16, then 1, 2, 10, 11
 abbrev pub insert_tests : Counts → Order → List Test
@@ -34,7 +34,7 @@ joined e o =
       counts = taken_one e.counts;
     }
 
-unfoldable pub insert_of : UistV1 → Order → Inserted
+unfoldable pub insert_of : UistV1 → Order → After UistV1
 insert_of e o =
     let n = drawn (insert_tests e.counts o) in
-    record { exchange = unless_drawn n (joined e o) e; fault = n }
+    record { state = unless_drawn n (joined e o) e; fault = n }

@@ -3,6 +3,7 @@ use Rattle.std.specs.Prelude.{◌≡◌, ℕ, suc, Bool, false, List, [], ◌∷
 use Rattle.std.specs.Prelude.{Option, None, Some}
 use Rattle.lists.specs.Lists.{over}
 use Rattle.market.specs.Faults.{Test, drawn, unless_drawn}
+use Rattle.market.specs.declared.fault.Fault.{Fault}
 use Rattle.market.specs.Orders.{order_tests}
 use Rattle.market.specs.Quotes.{table_tests}
 use Rattle.market.specs.declared.order.Order.{Order}
@@ -24,10 +25,10 @@ pub data Call : Type 0 where
   delete : ℕ → Call
   tick : List Quote → Call
 
--- what a call answers: how many orders traded, and the number drawn, or 0
+-- what a call answers: how many orders traded, and what was drawn
 pub record Answer : Type 0 where
   pub traded : ℕ
-  pub fault : ℕ
+  pub fault : Option Fault
 
 -- ---- the program: each call finds the exchange and the log as the last call left them
 
@@ -39,8 +40,8 @@ abbrev pub opened : List Trade → Held
 opened log = record { exchange = open_of log; log = log }
 
 abbrev pub step : Held → Call → Held
-step s (insert o) = record { exchange = (insert_of s.exchange o).exchange; log = s.log }
-step s (delete n) = record { exchange = (delete_of s.exchange n).exchange; log = s.log }
+step s (insert o) = record { exchange = (insert_of s.exchange o).state; log = s.log }
+step s (delete n) = record { exchange = (delete_of s.exchange n).state; log = s.log }
 step s (tick rows) = record { exchange = (lent_tick s.exchange rows s.log).exchange; log = lent_log s.exchange rows s.log }
 
 abbrev pub answer : Held → Call → Answer
@@ -69,7 +70,7 @@ ledger_step room b (insert o) = unless_drawn (drawn (take_tests room b o)) (take
 ledger_step room b (delete n) = erase n b
 ledger_step room b (tick rows) = unless_drawn (drawn (table_tests 0 rows)) (Ledger.tick rows b) b
 
--- the orders that a call takes: an insertion that draws no number
+-- the orders that a call takes: an insertion that draws nothing
 abbrev pub takes_in : ℕ → Orders → Call → List Taken
 takes_in room b (insert o) = unless_drawn (drawn (take_tests room b o)) (plain o ∷ []) []
 takes_in room b (delete n) = []
@@ -77,7 +78,7 @@ takes_in room b (tick rows) = []
 
 abbrev pub ledger_answer : ℕ → Orders → Call → Answer
 ledger_answer room b (insert o) = record { traded = 0; fault = drawn (take_tests room b o) }
-ledger_answer room b (delete n) = record { traded = 0; fault = 0 }
+ledger_answer room b (delete n) = record { traded = 0; fault = None }
 ledger_answer room b (tick rows) =
     record { traded = unless_drawn (drawn (table_tests 0 rows)) (length (fills_of rows b.booked)) 0; fault = drawn (table_tests 0 rows) }
 
@@ -134,4 +135,4 @@ pub record ExchangeRun (l₀ : List Trade) (cs : List Call) : Type 0 where
   pub logged : take (run (opened l₀) cs).exchange.counts.logged (run (opened l₀) cs).log ≡ (ledger_after (length l₀) cs).trades
   pub rest : resting_of (run (opened l₀) cs).exchange ≡ resting_from 0 (ledger_after (length l₀) cs).booked
   pub wait : waiting_of (run (opened l₀) cs).exchange ≡ orders_of (ledger_after (length l₀) cs).waiting
-  pub sound : drawn (log_test (run (opened l₀) cs).exchange.counts (length (run (opened l₀) cs).log) ∷ []) ≡ 0
+  pub sound : drawn (log_test (run (opened l₀) cs).exchange.counts (length (run (opened l₀) cs).log) ∷ []) ≡ None

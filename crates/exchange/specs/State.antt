@@ -1,13 +1,14 @@
 -- The exchange's state, and the lender's 16 for an exchange. Definitions only.
-use Rattle.std.specs.Prelude.{ℕ, ◌+◌, Bool, not, ◌||◌, List, [], ◌∷◌, map, take, drop, replicate, ◌==◌, nat_lt}
-use Rattle.market.specs.Faults.{Test, ◌draws◌, drawn, unless_drawn}
+use Rattle.std.specs.Prelude.{ℕ, ◌+◌, Bool, not, ◌||◌, List, [], ◌∷◌, map, take, drop, replicate, ◌==◌, nat_lt, Option, Result}
+use Rattle.market.specs.Faults.{Test, ◌draws◌, drawn, ok_unless}
+use Rattle.market.specs.declared.fault.Fault.{Fault}
+use Rattle.market.specs.declared.fault.Fault.TheVariants.{Unsound}
 use Rattle.market.specs.Orders.{blank_order}
 use Rattle.market.specs.declared.order.Order.{Order}
 use Rattle.orders.specs.Orders.{book_width, room_tests}
 use Rattle.exchange.specs.declared.state.Booked.{Booked}
 use Rattle.exchange.specs.declared.state.Counts.{Counts}
 use Rattle.exchange.specs.declared.state.UistV1.{UistV1}
-use Rattle.exchange.specs.declared.read.TradeCount.{TradeCount}
 
 -- a row of the book: an order that waits has no number yet, and 0 stands there
 abbrev pub booked_as : ℕ → Order → Booked
@@ -37,18 +38,18 @@ broken_of c =
 
 -- lender: 16 where the counts do not hold together; with a log lent, also where its length is not that of the start
 abbrev pub broken_test : Counts → Test
-broken_test c = broken_of c draws 16
+broken_test c = broken_of c draws Unsound
 
 abbrev pub log_differs : Counts → ℕ → Bool
 log_differs c n = not (n == c.room)
 
 abbrev pub log_test : Counts → ℕ → Test
-log_test c n = (log_differs c n || broken_of c) draws 16
+log_test c n = (log_differs c n || broken_of c) draws Unsound
 
-abbrev pub broken_fault : Counts → ℕ
+abbrev pub broken_fault : Counts → Option Fault
 broken_fault c = drawn (broken_test c ∷ [])
 
-abbrev pub log_fault : Counts → ℕ → ℕ
+abbrev pub log_fault : Counts → ℕ → Option Fault
 log_fault c n = drawn (log_test c n ∷ [])
 
 -- sender: 10 and 11 by the counts
@@ -63,8 +64,6 @@ resting_of e = take e.counts.resting e.book
 abbrev pub waiting_of : UistV1 → List Order
 waiting_of e = map (λ b. b.order) (take e.counts.waits (drop e.counts.resting e.book))
 
--- how many trades are in the log: 16, or 0
-unfoldable pub trade_count_of : UistV1 → TradeCount
-trade_count_of e =
-    let n = broken_fault e.counts in
-    record { count = unless_drawn n e.counts.logged 0; fault = n }
+-- how many trades are in the log, or 16
+abbrev pub trade_count_of : UistV1 → Result ℕ Fault
+trade_count_of e = ok_unless (broken_fault e.counts) e.counts.logged

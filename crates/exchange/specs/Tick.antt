@@ -1,8 +1,9 @@
 -- A tick: document 01, section 3. Definitions only.
 use Rattle.std.specs.Prelude.{ℕ, ◌+◌, ◌-◌, ◌%◌, ◌^◌, Bool, true, false, List, [], ◌∷◌, ◌++◌, map, length, take, drop, replicate}
-use Rattle.std.specs.Prelude.{Option}
+use Rattle.std.specs.Prelude.{Option, None}
 use Rattle.lists.specs.Lists.{over, keep, gather, given, holds}
 use Rattle.market.specs.Faults.{unless_drawn, first_drawn}
+use Rattle.market.specs.declared.fault.Fault.{Fault}
 use Rattle.market.specs.Quotes.{row_at}
 use Rattle.market.specs.Trades.{blank_trade, trade_on}
 use Rattle.market.specs.declared.order.Order.{Order}
@@ -102,8 +103,8 @@ ticked e rows =
       counts = counts_after c (length (ticked_book e rows)) (counter_after c.ids (sells_first (waiting_of e))) (length (trades_of rows (resting_of e)));
     }
 
--- a refusal: the state as it was, no trades, and the number
-abbrev pub refused_with : UistV1 → ℕ → Ticked
+-- what comes with a refusal: the state as it was, and no trades
+abbrev pub refused_with : UistV1 → Option Fault → Ticked
 refused_with e n = record { exchange = e; trades = no_trades; count = 0; first = 0; fault = n }
 
 abbrev pub tick_done : UistV1 → (ℕ → Option Quote) → Ticked
@@ -113,11 +114,11 @@ tick_done e rows =
       trades = over (trades_of rows (resting_of e)) no_trades;
       count = length (trades_of rows (resting_of e));
       first = e.counts.logged;
-      fault = 0;
+      fault = None;
     }
 
--- 16, then the number that the table's rows drew
-abbrev pub tick_fault : UistV1 → ℕ → ℕ
+-- 16, then what the table's rows drew
+abbrev pub tick_fault : UistV1 → Option Fault → Option Fault
 tick_fault e fault = first_drawn (broken_fault e.counts) fault
 
 unfoldable pub tick_of : UistV1 → Table → Ticked

@@ -4,13 +4,7 @@ ghost use Rattle.lists.specs.Lists.{first_from};
 ghost use Rattle.exchange.specs.Delete.{has_number, removed_of, delete_of};
 
 use crate::state::{Booked, UistV1};
-
-// The new state, and 16 or 0.
-#[derive(Clone, Copy)]
-pub struct Deleted {
-    pub exchange: UistV1,
-    pub fault: u32,
-}
+use market::fault::After;
 
 // Where a number stands among resting orders. Sixteen bits count the places (document 02, request 3),
 // of which the book has 1,024; a number has 64.
@@ -40,18 +34,18 @@ fn removed(e: UistV1, at: usize) -> UistV1
 }
 
 impl UistV1 {
-    // An unknown or waiting order: nothing.
-    #[tactic(auto, using(crate::proofs::Counting::few_rest))]
-    pub fn delete_order(self, order_id: u64) -> Deleted
+    // 16. An unknown or waiting order: nothing.
+    #[tactic(auto, using(crate::proofs::Counting::few_booked, crate::proofs::Removing::found_rests), unfolding(crate::specs::Delete::delete_of))]
+    pub fn delete_order(self, order_id: u64) -> After<UistV1>
         ensures { result ≡ delete_of self order_id }
     {
         let fault = self.counts.fault();
-        let mut exchange = self;
-        if fault == 0 {
+        let mut state = self;
+        if fault.is_none() {
             if let Some(at) = place_of(&self.book[..self.counts.resting], order_id) {
-                exchange = removed(self, at);
+                state = removed(self, at);
             }
         }
-        Deleted { exchange, fault }
+        After { state, fault }
     }
 }

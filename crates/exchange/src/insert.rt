@@ -5,15 +5,8 @@ ghost use Rattle.exchange.specs.State.{room_of};
 ghost use Rattle.exchange.specs.Insert.{insert_tests, has_room, join_of, insert_of};
 
 use crate::state::{Booked, Counts, UistV1};
-use market::fault;
+use market::fault::{After, Fault};
 use market::order::Order;
-
-// The new state, and the number drawn, or 0 where the order was taken.
-#[derive(Clone, Copy)]
-pub struct Inserted {
-    pub exchange: UistV1,
-    pub fault: u32,
-}
 
 // The counts with one order more that waits, and its place in the book.
 #[derive(Clone, Copy)]
@@ -23,26 +16,26 @@ pub struct Joining {
 }
 
 impl Counts {
-    // 10 and 11, or 0. No sum here can wrap.
+    // 10 and 11. No sum here can wrap.
     #[tactic(auto, unfolding(market::specs::Faults::drawn))]
-    pub fn room_fault(self) -> u32
+    pub fn room_fault(self) -> Option<Fault>
         ensures { result ≡ drawn (room_of self) }
     {
         if self.taken == self.room {
-            return 10;
+            return Some(Fault::LogFull);
         }
         if self.resting <= Counts::WIDTH && self.waits == Counts::WIDTH - self.resting {
-            11
-        } else {
-            0
+            return Some(Fault::BookFull);
         }
+        None
     }
 
-    // 16, 1, 2, 10 and 11, or 0.
-    fn insert_fault(self, order: Order) -> u32
+    // 16, 1, 2, 10 and 11.
+    #[tactic(auto, using(crate::proofs::Counting::in_turn))]
+    fn insert_fault(self, order: Order) -> Option<Fault>
         ensures { result ≡ drawn (insert_tests self order) }
     {
-        fault::first(self.fault(), fault::first(order.fault(), self.room_fault()))
+        self.fault().or(order.fault()).or(self.room_fault())
     }
 
     // Is there room for one more order?
@@ -78,16 +71,18 @@ impl Counts {
 }
 
 impl UistV1 {
-    pub fn insert_order(self, order: Order) -> Inserted
+    // The state as it was where the order is refused.
+    #[tactic(auto, using(crate::proofs::Counting::join_fits, crate::proofs::Counting::joins_by), unfolding(crate::specs::Insert::insert_of))]
+    pub fn insert_order(self, order: Order) -> After<UistV1>
         ensures { result ≡ insert_of self order }
     {
         let fault = self.counts.insert_fault(order);
-        let mut exchange = self;
-        if fault == 0 {
+        let mut state = self;
+        if fault.is_none() {
             let join = self.counts.join();
-            exchange.book[join.at] = Booked::waiting(order);
-            exchange.counts = join.counts;
+            state.book[join.at] = Booked::waiting(order);
+            state.counts = join.counts;
         }
-        Inserted { exchange, fault }
+        After { state, fault }
     }
 }

@@ -3,22 +3,13 @@ ghost use Rattle.std.specs.Prelude.{◌≡◌};
 ghost use Rattle.exchange.specs.State.{trade_count_of};
 
 use crate::state::UistV1;
-
-// How many trades are in the log, and the number drawn, or 0.
-#[derive(Clone, Copy)]
-pub struct TradeCount {
-    pub count: u64,
-    pub fault: u32,
-}
+use market::fault::{Fault, ok_unless};
 
 impl UistV1 {
     // How many trades are in the log.
-    #[tactic(auto, unfolding(crate::specs::State::trade_count_of))]
-    pub fn executed_trade_count(self) -> TradeCount
+    pub fn executed_trade_count(self) -> Result<u64, Fault>
         ensures { result ≡ trade_count_of self }
     {
-        let fault = self.counts.fault();
-        let count = if fault == 0 { self.counts.logged } else { 0 };
-        TradeCount { count, fault }
+        ok_unless(self.counts.fault(), self.counts.logged)
     }
 }

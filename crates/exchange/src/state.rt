@@ -2,6 +2,7 @@
 ghost use Rattle.std.specs.Prelude.{◌≡◌};
 ghost use Rattle.exchange.specs.State.{booked_as, waiting_row, fresh, broken_of, log_differs, broken_fault, log_fault};
 
+use market::fault::Fault;
 use market::order::Order;
 
 // An order in the book. A waiting order has no number yet: 0 stands there.
@@ -72,7 +73,7 @@ impl Counts {
     // How many orders a book has place for.
     pub const WIDTH: usize = 1024;
 
-    // 16: the counts do not hold together. No sum here can wrap.
+    // Do the counts not hold together? No sum here can wrap.
     pub fn broken(self) -> bool
         ensures { result ≡ broken_of self }
     {
@@ -84,12 +85,12 @@ impl Counts {
             || (self.resting + self.waits) as u64 > self.taken - self.logged
     }
 
-    // 16, or 0.
+    // 16 where they do not hold together.
     #[tactic(auto, unfolding(market::specs::Faults::drawn))]
-    pub fn fault(self) -> u32
+    pub fn fault(self) -> Option<Fault>
         ensures { result ≡ broken_fault self }
     {
-        if self.broken() { 16 } else { 0 }
+        self.broken().then_some(Fault::Unsound)
     }
 
     // Is this another length than the log had at the start?
@@ -99,15 +100,11 @@ impl Counts {
         log_length as u64 != self.room
     }
 
-    // 16 also for a log of another length than at the start, or 0.
+    // 16 also for a log of another length than at the start.
     #[tactic(auto, unfolding(market::specs::Faults::drawn))]
-    pub fn fault_for(self, log_length: usize) -> u32
+    pub fn fault_for(self, log_length: usize) -> Option<Fault>
         ensures { result ≡ log_fault self log_length }
     {
-        if self.log_differs(log_length) || self.broken() {
-            16
-        } else {
-            0
-        }
+        (self.log_differs(log_length) || self.broken()).then_some(Fault::Unsound)
     }
 }

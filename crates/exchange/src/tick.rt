@@ -1,31 +1,30 @@
 // A tick: the resting orders that meet their rule trade, then the waiting ones are booked.
-ghost use Rattle.std.specs.Prelude.{◌≡◌, ◌+◌, ◌≤◌, length};
+ghost use Rattle.std.specs.Prelude.{◌≡◌, ◌+◌, ◌≤◌, length, None, Some};
 ghost use Rattle.market.specs.Faults.{unless_drawn};
 ghost use Rattle.exchange.specs.Tick.{no_trades, execute_of, side_of, book_side_of, book_waiting_of, counts_after, refused_with, tick_of, tick_for_of, answer_of};
 
 use crate::state::{Booked, Counts, UistV1};
+use market::fault::{Fault, unless_drawn};
 use market::table::{ReadTable, Table};
-use market::trade::Trade;
-use market::{fault, trade};
+use market::trade::{self, Trade};
 
 // The new state, the trades in the first `count` places of `trades`, the log's row where the first
-// of them goes, and the number drawn, or 0. The trades stand in fixed memory, with their count.
+// of them goes, and what was drawn. The trades stand in fixed memory, with their count.
 #[derive(Clone, Copy)]
 pub struct Ticked {
     pub exchange: UistV1,
     pub trades: [Trade; 1024],
     pub count: usize,
     pub first: usize,
-    pub fault: u32,
+    pub fault: Option<Fault>,
 }
 
-// What a tick on a lent log answers: the new state, how many orders traded, and the number drawn,
-// or 0.
+// What a tick on a lent log answers: the new state, how many orders traded, and what was drawn.
 #[derive(Clone, Copy)]
 pub struct TickAnswer {
     pub exchange: UistV1,
     pub traded: usize,
-    pub fault: u32,
+    pub fault: Option<Fault>,
 }
 
 // The resting orders that stay, and the trades of the others, each in fixed memory with a count.
@@ -37,7 +36,8 @@ struct Executed {
     count: usize,
 }
 
-// A book, how many of its orders rest, and how many numbers were given.
+// A book, how many of its orders rest, and how many numbers were given. The book is fixed memory, so its
+// count stands beside it.
 #[derive(Clone, Copy)]
 struct Booking {
     book: [Booked; 1024],
@@ -113,12 +113,12 @@ impl Booking {
 
 impl Counts {
     // The counts after a tick that booked `resting` orders up to the number `ids` and traded `count`;
-    // as they were where a number is drawn.
-    fn after(self, fault: u32, resting: usize, ids: u64, count: usize) -> Counts
-        requires { fault ≡ 0 → self.logged + count ≤ self.taken }
+    // as they were where something is drawn.
+    fn after(self, fault: Option<Fault>, resting: usize, ids: u64, count: usize) -> Counts
+        requires { fault ≡ None → self.logged + count ≤ self.taken }
         ensures { result ≡ unless_drawn fault (counts_after self resting ids count) self }
     {
-        if fault != 0 {
+        if fault.is_some() {
             return self;
         }
         Counts {
@@ -132,29 +132,29 @@ impl Counts {
 }
 
 // No trades, the state as it was.
-fn refused(e: UistV1, fault: u32) -> Ticked
-    ensures { result ≡ refused_with e fault }
+fn refused(e: UistV1, fault: Fault) -> Ticked
+    ensures { result ≡ refused_with e (Some fault) }
 {
     Ticked {
         exchange: e,
         trades: no_trades(),
         count: 0,
         first: 0,
-        fault,
+        fault: Some(fault),
     }
 }
 
 impl UistV1 {
-    // One way through, refused or not: a tick that draws a number trades and books none. A return
+    // One way through, refused or not: a tick that is refused trades and books none. A return
     // before the work would cost copies of the whole book.
     pub fn tick(self, quotes: ReadTable) -> Ticked
         ensures { result ≡ tick_of self quotes.table }
     {
         let table = quotes.table();
         let counts = self.counts;
-        let fault = fault::first(counts.fault(), table.fault);
-        let resting = fault::count_unless(fault, counts.resting);
-        let waits = fault::count_unless(fault, counts.waits);
+        let fault = counts.fault().or(table.fault);
+        let resting = unless_drawn(fault, counts.resting, 0);
+        let waits = unless_drawn(fault, counts.waits, 0);
         let Executed {
             book,
             kept,
@@ -175,7 +175,7 @@ impl UistV1 {
             },
             trades,
             count,
-            first: fault::count_unless(fault, counts.logged as usize),
+            first: unless_drawn(fault, counts.logged as usize, 0),
             fault,
         }
     }
@@ -185,8 +185,7 @@ impl UistV1 {
     pub fn tick_for(self, quotes: ReadTable, log_length: usize) -> Ticked
         ensures { result ≡ tick_for_of self quotes.table log_length }
     {
-        let fault = self.counts.fault_for(log_length);
-        if fault != 0 {
+        if let Some(fault) = self.counts.fault_for(log_length) {
             return refused(self, fault);
         }
         self.tick(quotes)

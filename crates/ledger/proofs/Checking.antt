@@ -47,7 +47,7 @@ all_append : {A : Type 0} (P : A → Type 0) (l m : List A) → All P l → All 
 all_append P [] m a b = b
 all_append P (x ∷ l) m a b = (a.0, all_append P l m a.1 b)
 
-module _ (t : List Quote) (d : drawn (table_tests 0 t) ≡ 0) where
+module _ (t : List Quote) (d : drawn (table_tests 0 t) ≡ None) where
   traded-below : (o : Order) (r : Option Quote) (x : Trade) → row_for t o.symbol ≡ r → trade_on r o ≡ Some x → x.symbol < 256
   unfolding trade_on
   traded-below o None x f e = absurd (none-some x e)
@@ -64,7 +64,7 @@ module _ (t : List Quote) (d : drawn (table_tests 0 t) ≡ 0) where
 
 -- ---- booking
 
-module _ (b : UistBroker) (L : Ledger) (m : Stands b L) (t f : List Quote) (dt : drawn (table_tests 0 t) ≡ 0) (df : drawn (table_tests 0 f) ≡ 0) where
+module _ (b : UistBroker) (L : Ledger) (m : Stands b L) (t f : List Quote) (dt : drawn (table_tests 0 t) ≡ None) (df : drawn (table_tests 0 f) ≡ None) where
   pub rows_same : row_at (table_of t) ≡ row_for t
   rows_same = fun_ext (table-row t dt)
 
@@ -143,7 +143,7 @@ rescue-stands b L m =
 
 -- ---- a check, and an update
 
-pub check-stands : (b : UistBroker) (L : Ledger) → Stands b L → (t f : List Quote) → drawn (table_tests 0 t) ≡ 0 → drawn (table_tests 0 f) ≡ 0 → L.room < 2 ^ 64 →
+pub check-stands : (b : UistBroker) (L : Ledger) → Stands b L → (t f : List Quote) → drawn (table_tests 0 t) ≡ None → drawn (table_tests 0 f) ≡ None → L.room < 2 ^ 64 →
     Stands (checked_by b (table_of t) (table_of f)) (checking L t f)
 unfolding checked_by checking
 check-stands b L m t f dt df h = rescue-stands _ _ (booking-stands b L m t f dt df h)

@@ -1,11 +1,13 @@
 -- Demand 3, proved: the program meets the ledger over every list of calls, and the ledger has the claim. Assumes nothing.
-use Prim.Native.Nat.{ℕ, zero, suc, ◌<◌, ◌≤◌, ◌^◌}
+use Prim.Native.Nat.{ℕ, ◌<◌, ◌≤◌, ◌^◌}
 use native.Mathlib.Omega.{arith}
 use mathlib.Core.Bool.{true, false, ◌&&◌}
 use mathlib.Core.Path.{◌≡◌, refl, ◌∙◌, sym, ap, ap₂, fun_ext}
 use mathlib.Core.List.{List, [], ◌∷◌, ◌++◌}
 use Rattle.std.specs.declared.option.Option.{Option}
 use Rattle.std.specs.declared.option.Option.TheVariants.{None, Some}
+use Rattle.std.specs.Prelude.{Ok}
+use Rattle.std.specs.Result.{result_unwrap_or}
 use Rattle.std.proofs.lemmas.Grind.{common_steps}
 use lib.Ieee as Ieee
 use lib.Ieee.{Float, nan}
@@ -14,6 +16,8 @@ use borrow.Author.Tests.{le-leb}
 use Rattle.lists.specs.Lists.{All}
 use Rattle.lists.proofs.Over.{take-over}
 use Rattle.market.specs.Faults.{◌draws◌, drawn, unless_drawn}
+use Rattle.market.specs.declared.fault.Fault.{Fault}
+use Rattle.market.specs.declared.fault.Fault.TheVariants.{Unsound}
 use Rattle.market.specs.Orders.{zero64}
 use Rattle.market.specs.Quotes.{table_tests, table_of}
 use Rattle.market.specs.declared.quote.Quote.{Quote}
@@ -32,7 +36,7 @@ use Rattle.exchange.specs.State.{fresh, blank_row}
 use Rattle.rules.specs.Money.{unless_zero}
 use Rattle.rules.specs.Basis.{cost_basis}
 use Rattle.portfolio.specs.State.{no_funds, held_at, pending_at}
-use Rattle.broker.specs.Build.{build_of, each_finite, builder_tests, fresh_broker}
+use Rattle.broker.specs.Build.{build_of, each_finite, builder_tests, fresh_broker, no_broker}
 use Rattle.broker.specs.Lender.{log_test, broker_fault}
 use Rattle.broker.specs.Lent.{build_for}
 use Rattle.market.specs.declared.order.OrderEvent.{OrderEvent}
@@ -60,13 +64,13 @@ run-answers l₀ h s L [] m = refl
 run-answers l₀ h s L (c ∷ cs) m = ap₂ (λ x y. x ∷ y) (step-answer l₀ s L m h c) (run-answers l₀ h (Program.step s c) (Ledger.step L c) cs (step-meets l₀ s L m h c))
 
 module _ (l₀ : List Trade) (h : length l₀ < 2 ^ 64) (s : Held) (L : Ledger) (m : Meets l₀ s L) where
-  no-sixteen : drawn (log_test s.broker s.log ∷ []) ≡ 0
+  no-sixteen : drawn (log_test s.broker s.log ∷ []) ≡ None
   unfolding drawn
-  no-sixteen = ap (λ x. drawn ((x draws 16) ∷ [])) (log-test l₀ s L m h)
+  no-sixteen = ap (λ x. drawn ((x draws Unsound) ∷ [])) (log-test l₀ s L m h)
 
-  no-sixteen-alone : broker_fault s.broker ≡ 0
+  no-sixteen-alone : broker_fault s.broker ≡ None
   unfolding drawn
-  no-sixteen-alone = ap (λ x. drawn ((x draws 16) ∷ [])) (unbroken s.broker L m.stands)
+  no-sixteen-alone = ap (λ x. drawn ((x draws Unsound) ∷ [])) (unbroken s.broker L m.stands)
 
 -- ---- the builder's result
 
@@ -82,7 +86,7 @@ none-pending k n = grind (arith, common_steps)
 
 module _ (costs : TradeCosts) (lot : ℕ) (first : List Quote) (l₀ : List Trade) where
   -- at most 16 costs, each finite
-  finite-none : (l : List BrokerCost) → All (λ c. is_finite c ≡ true) l → drawn (each_finite l) ≡ 0
+  finite-none : (l : List BrokerCost) → All (λ c. is_finite c ≡ true) l → drawn (each_finite l) ≡ None
   unfolding drawn
   finite-none [] a = refl
   finite-none (c ∷ l) a = grind (arith, a.0, finite-none l a.1)
@@ -91,24 +95,20 @@ module _ (costs : TradeCosts) (lot : ℕ) (first : List Quote) (l₀ : List Trad
   lot-sound : (1 ≤ lot) × (lot ≤ 1000000) → is_lot lot ≡ true
   lot-sound h = ap₂ ◌&&◌ (le-leb 1 lot h.0) (le-leb lot 1000000 h.1)
 
-  builder-none : Buildable costs lot first → drawn (builder_tests costs.count lot (costs_of costs)) ≡ 0
+  builder-none : Buildable costs lot first → drawn (builder_tests costs.count lot (costs_of costs)) ≡ None
   unfolding drawn
   builder-none d =
       grind (arith, d.few, lot-sound d.lot-size, finite-none (costs_of costs) d.each-finite)
 
-  draws-none : drawn (builder_tests costs.count lot (costs_of costs)) ≡ 0 → drawn (table_tests 0 first) ≡ 0 → (build_for costs lot first l₀).fault ≡ 0
+  -- the builder draws nothing, and answers the fresh broker
+  builds : drawn (builder_tests costs.count lot (costs_of costs)) ≡ None → drawn (table_tests 0 first) ≡ None → build_for costs lot first l₀ ≡ Ok (fresh_broker costs lot (table_of first) (length l₀))
   unfolding build_of
-  draws-none c t = grind (arith, c, table-fault first, t)
+  builds c t = rw (c, table-fault first, t) refl
 
-  build-table : (build_for costs lot first l₀).fault ≡ 0 → drawn (table_tests 0 first) ≡ 0
-  unfolding build_of
-  build-table e = grind (arith, e, table-fault first)
+  built-broker : build_for costs lot first l₀ ≡ Ok (fresh_broker costs lot (table_of first) (length l₀)) → (built costs lot first l₀).broker ≡ fresh_broker costs lot (table_of first) (length l₀)
+  built-broker e = ap (λ r. result_unwrap_or r no_broker) e
 
-  built-broker : (build_for costs lot first l₀).fault ≡ 0 → (build_for costs lot first l₀).broker ≡ fresh_broker costs lot (table_of first) (length l₀)
-  unfolding build_of
-  built-broker e = rw e refl
-
-  pub fresh_meets : is_lot lot ≡ true → drawn (table_tests 0 first) ≡ 0 → Meets l₀ (record { broker = fresh_broker costs lot (table_of first) (length l₀); log = l₀ }) (start (costs_of costs) lot first (length l₀))
+  pub fresh_meets : is_lot lot ≡ true → drawn (table_tests 0 first) ≡ None → Meets l₀ (record { broker = fresh_broker costs lot (table_of first) (length l₀); log = l₀ }) (start (costs_of costs) lot first (length l₀))
   unfolding fresh no_funds start
   fresh_meets s d =
       record {
@@ -137,8 +137,8 @@ module _ (costs : TradeCosts) (lot : ℕ) (first : List Quote) (l₀ : List Trad
         log = refl;
       }
 
-  built-meets : is_lot lot ≡ true → (build_for costs lot first l₀).fault ≡ 0 → Meets l₀ (built costs lot first l₀) (start (costs_of costs) lot first (length l₀))
-  built-meets s e = rw (built-broker e) (fresh_meets s (build-table e))
+  built-meets : is_lot lot ≡ true → drawn (table_tests 0 first) ≡ None → build_for costs lot first l₀ ≡ Ok (fresh_broker costs lot (table_of first) (length l₀)) → Meets l₀ (built costs lot first l₀) (start (costs_of costs) lot first (length l₀))
+  built-meets s d e = rw (built-broker e) (fresh_meets s d)
 
 -- ---- the ledger has the claim
 
@@ -156,16 +156,16 @@ acting-shape : (L M : Ledger) (c : Call) (new : List Taken) (t f : List Quote) �
     Shape broker_calls L.orders c new M.orders
 acting-shape L M c new t f d s k = acting broker_calls L.orders M.orders c new t d s (record { waiting = k.waiting; booked = k.booked; trades = k.trades })
 
-check-shape : (L : Ledger) (t f : List Quote) (n : ℕ) → drawn (check_tests t f) ≡ n →
-    Shape broker_calls L.orders (check t f) (unless_drawn n (takes_acting L (check t f)) []) (unless_drawn n (checking L t f) L).orders
-check-shape L t f zero e = acting-shape L (checking L t f) (check t f) _ t f (λ k. refl) (ap (λ k. unless_drawn k (Some t) None) e) (keeps-checking L t f)
-check-shape L t f (suc n) e = quiet-shape L L (check t f) [] (λ k. refl) (ap (λ k. unless_drawn k (Some t) None) e) (keeps L)
+check-shape : (L : Ledger) (t f : List Quote) (d : Option Fault) → drawn (check_tests t f) ≡ d →
+    Shape broker_calls L.orders (check t f) (unless_drawn d (takes_acting L (check t f)) []) (unless_drawn d (checking L t f) L).orders
+check-shape L t f None e = acting-shape L (checking L t f) (check t f) _ t f (λ k. refl) (ap (λ k. unless_drawn k (Some t) None) e) (keeps-checking L t f)
+check-shape L t f (Some x) e = quiet-shape L L (check t f) [] (λ k. refl) (ap (λ k. unless_drawn k (Some t) None) e) (keeps L)
 
-update-shape : (L : Ledger) (t f : List Quote) (w : List Weight) (e : List OrderEvent) (n : ℕ) → drawn (update_tests t f w (length e)) ≡ n →
-    Shape broker_calls L.orders (update t f w e) (unless_drawn n (takes_acting L (update t f w e)) []) (unless_drawn n (after_weights (checking L t f) w) L).orders
-update-shape L t f w e zero d =
+update-shape : (L : Ledger) (t f : List Quote) (w : List Weight) (e : List OrderEvent) (d : Option Fault) → drawn (update_tests t f w (length e)) ≡ d →
+    Shape broker_calls L.orders (update t f w e) (unless_drawn d (takes_acting L (update t f w e)) []) (unless_drawn d (after_weights (checking L t f) w) L).orders
+update-shape L t f w e None d =
     acting-shape L (after_weights (checking L t f) w) (update t f w e) _ t f (λ k. refl) (ap (λ k. unless_drawn k (Some t) None) d) (keeps-both (keeps-checking L t f) (keeps-weights (checking L t f) w))
-update-shape L t f w e (suc n) d = quiet-shape L L (update t f w e) [] (λ k. refl) (ap (λ k. unless_drawn k (Some t) None) d) (keeps L)
+update-shape L t f w e (Some x) d = quiet-shape L L (update t f w e) [] (λ k. refl) (ap (λ k. unless_drawn k (Some t) None) d) (keeps L)
 
 step-shape : (L : Ledger) (c : Call) → Shape broker_calls L.orders c (takes L c) (Ledger.step L c).orders
 step-shape L (deposit a) = quiet-shape L _ (deposit a) _ (λ n. refl) refl (quiet-deposit L a)
@@ -204,13 +204,14 @@ ledger-runs L z =
 pub demand-3 : (costs : TradeCosts) (lot : ℕ) (first : List Quote) (l₀ : List Trade) → Buildable costs lot first → length l₀ < 2 ^ 64 → (cs : List Call) → Demand3 costs lot first l₀ cs
 unfolding start
 demand-3 costs lot first l₀ d h cs =
-    let e = draws-none costs lot first l₀ (builder-none costs lot first l₀ d) d.table in
+    let e = builds costs lot first l₀ (builder-none costs lot first l₀ d) d.table in
     let L = start (costs_of costs) lot first (length l₀) in
-    let s = built-meets costs lot first l₀ (lot-sound costs lot first l₀ d.lot-size) e in
+    let s = built-meets costs lot first l₀ (lot-sound costs lot first l₀ d.lot-size) d.table e in
     let m = run-meets l₀ h (built costs lot first l₀) L cs s in
     let count = (Program.run (built costs lot first l₀) cs).broker.exchange.counts.logged in
     let logged = ap (take count) m.log ∙ take-over (Ledger.run L cs).orders.trades l₀ count (sym m.stands.books.logged-is) in
     record {
+      begun = e ∙ ap Ok (sym (built-broker costs lot first l₀ e));
       lived = Lives.lived broker_calls (λ past c. takes (Ledger.run L past) c) (λ xs. (Ledger.run L xs).orders) (ledger-runs L refl) cs;
       answered = run-answers l₀ h (built costs lot first l₀) L cs s;
       compared = record {

@@ -1,4 +1,4 @@
--- Tables that draw no number: a row's symbol is below 256, fetched rows become latest, and merged tables are read as such. Assumes nothing.
+-- Tables that draw nothing: a row's symbol is below 256, fetched rows become latest, and merged tables are read as such. Assumes nothing.
 use Prim.Native.Nat.{ℕ, zero, suc, ◌+◌, ◌<◌}
 use native.Mathlib.Omega.{arith}
 use mathlib.Core.Path.{◌≡◌, refl, ◌∙◌, fun_ext}
@@ -19,7 +19,7 @@ use Rattle.rules.specs.Money.{fetch_one}
 use Rattle.portfolio.specs.Booking.{merge_of}
 
 -- a row's symbol is below 256
-pub row_below : (least : ℕ) (l : List Quote) (n : ℕ) (q : Quote) → drawn (table_tests least l) ≡ 0 → row_for l n ≡ Some q → n < 256
+pub row_below : (least : ℕ) (l : List Quote) (n : ℕ) (q : Quote) → drawn (table_tests least l) ≡ None → row_for l n ≡ Some q → n < 256
 row_below least [] n q d e = absurd (none-some q e)
 row_below least (x ∷ l) n q d e =
     let r = rows_none least x l d in
@@ -27,14 +27,14 @@ row_below least (x ∷ l) n q d e =
 
 -- ---- fetched rows
 
-fetch-at : (least : ℕ) (l : List Quote) (m : ℕ → Option Quote) (n : ℕ) → drawn (table_tests least l) ≡ 0 → foldl fetch_one m l n ≡ given (row_for l n) (m n) Some
+fetch-at : (least : ℕ) (l : List Quote) (m : ℕ → Option Quote) (n : ℕ) → drawn (table_tests least l) ≡ None → foldl fetch_one m l n ≡ given (row_for l n) (m n) Some
 fetch-at least [] m n d = refl
 fetch-at least (q ∷ l) m n d =
     let r = rows_none least q l d in
     fetch-at (q.symbol + 1) l (fetch_one m q) n r.1 ∙ grind (arith, Tables.row_below (q.symbol + 1) l n r.1)
 
 -- the first table's rows are the first latest quotes
-pub first_rows : (l : List Quote) → drawn (table_tests 0 l) ≡ 0 → row_at (table_of l) ≡ foldl fetch_one (λ n. None) l
+pub first_rows : (l : List Quote) → drawn (table_tests 0 l) ≡ None → row_at (table_of l) ≡ foldl fetch_one (λ n. None) l
 first_rows l d = fun_ext (λ n. grind (arith, table-row l d n, fetch-at 0 l (λ k. None) n d))
 
 -- ---- a merged table
@@ -49,6 +49,6 @@ unfolding merge_of
 merge-row l f n p q = grind (arith, length-each, get_or-eq_default, get_or-each (λ i q. given (row_at f i) q Some) 0 l.rows n None None)
 
 -- a table merged with fetched rows is read as the latest quotes with those rows taken in
-pub merge-fetched : (l : Table) (rows : List Quote) → length l.rows ≡ 256 → drawn (table_tests 0 rows) ≡ 0 →
+pub merge-fetched : (l : Table) (rows : List Quote) → length l.rows ≡ 256 → drawn (table_tests 0 rows) ≡ None →
     row_at (merge_of l (table_of rows)) ≡ foldl fetch_one (row_at l) rows
 merge-fetched l rows p d = fun_ext (λ n. merge-row l (table_of rows) n p (table-rows-length rows) ∙ grind (arith, table-row rows d n, fetch-at 0 rows (row_at l) n d))

@@ -1,5 +1,4 @@
 -- What the ledger's calls leave alone: the log's length; and every call but a deletion and a check leaves the booked orders and the trades, and appends what it takes to the waiting ones. Assumes nothing.
-use Prim.Native.Nat.{ℕ, zero, suc}
 use mathlib.Core.Bool.{Bool, true, false, cond}
 use mathlib.Core.Path.{◌≡◌, refl, ◌∙◌, sym, ap, subst}
 use mathlib.Core.List.{List, [], ◌∷◌, ◌++◌, append-nil, append_assoc}
@@ -8,6 +7,7 @@ use Rattle.std.specs.declared.option.Option.TheVariants.{None, Some}
 use lib.Ieee.{Float}
 use Rattle.lists.specs.Lists.{given}
 use Rattle.market.specs.Faults.{drawn, unless_drawn}
+use Rattle.market.specs.declared.fault.Fault.{Fault}
 use Rattle.market.specs.Orders.{zero64}
 use Rattle.market.specs.declared.order.Order.{Order}
 use Rattle.market.specs.declared.quote.Quote.{Quote}
@@ -44,9 +44,9 @@ keeps-both {L} {a = a} {b = b} p q =
       trades = q.trades ∙ p.trades;
     }
 
-pub keeps-unless : (n : ℕ) (L M : Ledger) (new : List Taken) → Keeps L new M → Keeps L (unless_drawn n new []) (unless_drawn n M L)
-keeps-unless zero L M new k = k
-keeps-unless (suc n) L M new k = keeps L
+pub keeps-unless : (d : Option Fault) (L M : Ledger) (new : List Taken) → Keeps L new M → Keeps L (unless_drawn d new []) (unless_drawn d M L)
+keeps-unless None L M new k = k
+keeps-unless (Some f) L M new k = keeps L
 
 -- an order that is taken
 keeps-taking : (L M : Ledger) (o : Order) → M.room ≡ L.room → M.orders ≡ take_on (plain o) L.orders → Keeps L (plain o ∷ []) M

@@ -1,5 +1,5 @@
 -- A broker stands for a ledger: the relation, and that sends, insertions, deletions, cash and liquidations keep it and answer alike. Assumes nothing.
-use Prim.Native.Nat.{ℕ, zero, suc, ◌+◌, ◌<◌}
+use Prim.Native.Nat.{ℕ, ◌+◌, ◌<◌}
 use native.Mathlib.Omega.{arith}
 use mathlib.Core.Bool.{Bool, true, false, not, cond, ◌||◌}
 use mathlib.Core.Path.{◌≡◌, refl, ◌∙◌, sym, ap, ap₂, subst}
@@ -10,9 +10,10 @@ use lib.Ieee.{Float}
 use lib.ListN.{length}
 use Rattle.lists.specs.Lists.{given}
 use Rattle.market.specs.Faults.{drawn, unless_drawn}
+use Rattle.market.specs.declared.fault.Fault.{Fault}
 use Rattle.market.specs.Orders.{event_of, order_tests}
 use Rattle.market.specs.declared.order.Order.{Order}
-use Rattle.market.proofs.Faults.{order-numbered, append-none}
+use Rattle.market.proofs.Faults.{append-none}
 use Rattle.orders.specs.Orders.{plain, resting_in, take_on, erase}
 use Rattle.floats.specs.Lots.{is_lot}
 use Rattle.exchange.specs.State.{broken_of, room_of}
@@ -45,7 +46,7 @@ pub record Stands (b : UistBroker) (L : Ledger) : Type 0 where
   pub lot : is_lot b.portfolio.lot ≡ true
 
 module _ (b : UistBroker) (L : Ledger) (m : Stands b L) where
-  -- 16 is not drawn, neither by the exchange nor by the broker
+  -- Unsound is not drawn, neither by the exchange nor by the broker
   counts-hold : broken_of b.exchange.counts ≡ false
   counts-hold =
       let r = m.books in
@@ -64,8 +65,8 @@ module _ (b : UistBroker) (L : Ledger) (m : Stands b L) where
   rooms : room_of b.exchange.counts ≡ room_tests L
   rooms = let r = m.books in rw (r.taken_is, r.room-is, r.rest-count, r.wait-count)
 
-  -- an order that draws neither 10 nor 11 has room
-  room-left : drawn (room_tests L) ≡ 0 → (length L.orders.booked + length L.orders.waiting < L.room) × (resting_in L.orders.booked + length L.orders.waiting < 1024)
+  -- an order that draws neither LogFull nor BookFull has room
+  room-left : drawn (room_tests L) ≡ None → (length L.orders.booked + length L.orders.waiting < L.room) × (resting_in L.orders.booked + length L.orders.waiting < 1024)
   unfolding drawn
   room-left e = (grind (arith, m.books.fit.room-left), grind (arith, m.books.fit.places))
 
@@ -75,14 +76,14 @@ module _ (b : UistBroker) (L : Ledger) (m : Stands b L) where
   unfolding event_for send_event
   event-same o = ap₂ (λ x y. event_of o (drawn (send_tests x y o))) m.money rooms
 
-  send-facts : (o : Order) → drawn (send_tests L.money (room_tests L) o) ≡ 0 → (o.symbol < 256) × (drawn (room_tests L) ≡ 0)
+  send-facts : (o : Order) → drawn (send_tests L.money (room_tests L) o) ≡ None → (o.symbol < 256) × (drawn (room_tests L) ≡ None)
   unfolding drawn
   send-facts o e = (grind arith, grind arith)
 
-  taken-by : (o : Order) (n : ℕ) → drawn (send_tests L.money (room_tests L) o) ≡ n →
-      Stands (unless_drawn n (taken_by b o) b) (unless_drawn n (record { room = L.room; money = expected o L.money; orders = take_on (plain o) L.orders }) L)
-  taken-by o (suc n) e = m
-  taken-by o zero e =
+  taken-by : (o : Order) (d : Option Fault) → drawn (send_tests L.money (room_tests L) o) ≡ d →
+      Stands (unless_drawn d (taken_by b o) b) (unless_drawn d (record { room = L.room; money = expected o L.money; orders = take_on (plain o) L.orders }) L)
+  taken-by o (Some f) e = m
+  taken-by o None e =
       let s = send-facts o e in
       let h = room-left s.1 in
       record {
@@ -103,11 +104,11 @@ module _ (b : UistBroker) (L : Ledger) (m : Stands b L) where
   unfolding drawn
   insert-number o = rw (counts-hold, rooms)
 
-  inserted_by : (o : Order) (n : ℕ) → drawn (order_tests o ++ room_tests L) ≡ n →
-      Stands (record { exchange = unless_drawn n (joined b.exchange o) b.exchange; portfolio = b.portfolio }) (unless_drawn n (with_orders L (take_on (plain o) L.orders)) L)
-  inserted_by o (suc n) e = m
-  inserted_by o zero e =
-      let h = room-left (append-none (order_tests o) (room_tests L) (order-numbered o) e).1 in
+  inserted_by : (o : Order) (d : Option Fault) → drawn (order_tests o ++ room_tests L) ≡ d →
+      Stands (record { exchange = unless_drawn d (joined b.exchange o) b.exchange; portfolio = b.portfolio }) (unless_drawn d (with_orders L (take_on (plain o) L.orders)) L)
+  inserted_by o (Some f) e = m
+  inserted_by o None e =
+      let h = room-left (append-none (order_tests o) (room_tests L) e).1 in
       record { books = books-take b.exchange L.room L.orders m.books o h.0 h.1; money = m.money; wide = m.wide; rows = m.rows; lot = m.lot }
 
   pub insert-stands : (o : Order) → Stands (Send.insert_of b o).broker (inserting L o)
@@ -121,12 +122,12 @@ module _ (b : UistBroker) (L : Ledger) (m : Stands b L) where
 
   -- ---- a deletion
 
-  pub delete-stands : (n : ℕ) → Stands (Send.delete_of b n).broker (with_orders L (erase n L.orders))
+  pub delete-stands : (n : ℕ) → Stands (Send.delete_of b n).state (with_orders L (erase n L.orders))
   unfolding Send.delete_of Deletion.delete_of drawn
   delete-stands n =
       rw (unbroken, counts-hold) (record { books = books-delete b.exchange L.room L.orders m.books n; money = m.money; wide = m.wide; rows = m.rows; lot = m.lot })
 
-  pub delete-number : (n : ℕ) → (Send.delete_of b n).fault ≡ 0
+  pub delete-number : (n : ℕ) → (Send.delete_of b n).fault ≡ None
   unfolding Send.delete_of Deletion.delete_of drawn
   delete-number n = rw (unbroken, counts-hold)
 

@@ -1,5 +1,6 @@
 -- The calls of demand 3, and what they answer. Definitions only.
-use Rattle.std.specs.Prelude.{ℕ, List, Float}
+use Rattle.std.specs.Prelude.{ℕ, List, Option, Float}
+use Rattle.market.specs.declared.fault.Fault.{Fault}
 use Rattle.market.specs.declared.order.Order.{Order}
 use Rattle.market.specs.declared.quote.Quote.{Quote}
 use Rattle.market.specs.declared.weight.Weight.{Weight}
@@ -16,14 +17,14 @@ pub data Call : Type 0 where
   check : List Quote → List Quote → Call
   update : List Quote → List Quote → List Weight → List OrderEvent → Call
 
--- what a call answers: the number drawn, or 0; a deposit's or a withdrawal's success with its amount (a liquidation answers like a withdrawal), or the number
--- that a cash mover drew with its amount; an order's event; the lent list of events afterwards; trades booked;
+-- what a call answers: what was drawn; a deposit's or a withdrawal's success with its amount (a liquidation answers like a withdrawal), or what a cash mover
+-- drew with its amount; an order's event; the lent list of events afterwards; trades booked;
 -- the total value, the number of events, and the lent list afterwards
 pub data Answer : Type 0 where
-  fault : ℕ → Answer
+  fault : Option Fault → Answer
   deposited withdrawn : Float → Answer
-  refused : ℕ → Float → Answer
+  refused : Option Fault → Float → Answer
   event : OrderEvent → Answer
-  events : ℕ → List OrderEvent → Answer
-  traded : ℕ → ℕ → Answer
-  updated : ℕ → Float → ℕ → List OrderEvent → Answer
+  events : Option Fault → List OrderEvent → Answer
+  traded : Option Fault → ℕ → Answer
+  updated : Option Fault → Float → ℕ → List OrderEvent → Answer

@@ -1,6 +1,6 @@
 -- Demand 3: one statement about every list of calls from the builder's result. Definitions only.
 use Rattle.std.specs.Prelude.{ℕ, ◌≤◌, Bool, true, false, cond, ◌≡◌, List, [], ◌∷◌, ◌++◌, eqb, Float, length, take}
-use Rattle.std.specs.Prelude.{Option, None, Some}
+use Rattle.std.specs.Prelude.{Option, None, Some, Ok}
 use Rattle.lists.specs.Lists.{over, gather, given, All}
 use Rattle.market.specs.Faults.{drawn, unless_drawn}
 use Rattle.market.specs.Orders.{zero64}
@@ -21,6 +21,7 @@ use Rattle.rules.specs.Liquidation.{sales_for}
 use Rattle.rules.specs.Weights.{plan_of}
 use Rattle.portfolio.specs.State.{money_of}
 use Rattle.broker.specs.Lender.{log_test, broker_fault}
+use Rattle.broker.specs.Lent.{build_for}
 use Rattle.market.specs.declared.order.OrderEvent.{OrderEvent}
 use Rattle.ledger.specs.Calls.{Call, deposit, withdraw, liquidate, send, send_list, insert, delete, check, update}
 use Rattle.ledger.specs.Ledger as Ledger
@@ -28,7 +29,7 @@ use Rattle.ledger.specs.Ledger.{Ledger, send_event, send_events, insert_event, s
 use Rattle.ledger.specs.Program as Program
 use Rattle.ledger.specs.Program.{Held, built}
 
--- the tradable table of an unrefused check, alone or in an update: no number is drawn before it acts
+-- the tradable table of an unrefused check, alone or in an update: nothing is drawn before it acts
 abbrev pub tradable : Call → Option (List Quote)
 tradable (deposit a) = None
 tradable (withdraw a) = None
@@ -53,7 +54,7 @@ deletes n (update t f w e) = false
 
 -- ---- the orders that a call takes, in order of taking
 
--- of orders that are sent or inserted, those whose event has no number
+-- of orders that are sent or inserted, those whose event has no refusal
 abbrev pub taken_by : List OrderEvent → List Taken
 taken_by l = gather (λ e. unless_drawn e.fault (plain e.order ∷ []) []) l
 
@@ -69,7 +70,7 @@ takes_selling L a = given (sales_for L.money a) [] (sent_by L)
 abbrev pub takes_short : Ledger → List Taken
 takes_short L = cond (below L.money.cash zero64) (takes_selling L (shortfall L)) []
 
--- where no number is drawn before the call acts; a check takes its shortfall's orders, an update then those of the walk too
+-- where nothing is drawn before the call acts; a check takes its shortfall's orders, an update then those of the walk too
 abbrev pub takes_acting : Ledger → Call → List Taken
 takes_acting L (deposit a) = []
 takes_acting L (withdraw a) = []
@@ -81,19 +82,19 @@ takes_acting L (delete n) = []
 takes_acting L (check t f) = takes_short (booking L t f)
 takes_acting L (update t f w e) = takes_short (booking L t f) ++ sent_by (checking L t f) (plan_of (checking L t f).money w).orders
 
--- a call that draws a number before it acts takes none
+-- a call that draws something before it acts takes none
 abbrev pub takes : Ledger → Call → List Taken
 takes L c = unless_drawn (drawn (call_tests L c)) (takes_acting L c) []
 
 abbrev pub broker_calls : Calls
 broker_calls = record { Call = Call; tradable = tradable; deletes = deletes }
 
--- the builder draws no number: at most 16 costs, each finite, a lot of 1 to 1,000,000, and a first table that draws none
+-- the builder draws nothing: at most 16 costs, each finite, a lot of 1 to 1,000,000, and a first table that draws nothing
 pub record Buildable (costs : TradeCosts) (lot : ℕ) (first : List Quote) : Type 0 where
   pub few : costs.count ≤ 16
   pub lot-size : (1 ≤ lot) × (lot ≤ 1000000)
   pub each-finite : All (λ c. is_finite c ≡ true) (costs_of costs)
-  pub table : drawn (table_tests 0 first) ≡ 0
+  pub table : drawn (table_tests 0 first) ≡ None
 
 -- what is compared after a list of calls; l₀ is the log as it was lent at the start
 pub record Compared (l₀ : List Trade) (s : Held) (L : Ledger) : Type 0 where
@@ -101,9 +102,9 @@ pub record Compared (l₀ : List Trade) (s : Held) (L : Ledger) : Type 0 where
   pub log : s.log ≡ over L.orders.trades l₀
   -- the logged rows, from the first to the newest, are the trades and no others
   pub logged : take s.broker.exchange.counts.logged s.log ≡ L.orders.trades
-  -- no read draws 16, with the log lent or without
-  pub sound : drawn (log_test s.broker s.log ∷ []) ≡ 0
-  pub sound-alone : broker_fault s.broker ≡ 0
+  -- no read draws Unsound, with the log lent or without
+  pub sound : drawn (log_test s.broker s.log ∷ []) ≡ None
+  pub sound-alone : broker_fault s.broker ≡ None
   -- resting orders with their numbers, and waiting ones
   pub resting : resting_of s.broker.exchange ≡ resting_from 0 L.orders.booked
   pub waiting : waiting_of s.broker.exchange ≡ orders_of L.orders.waiting
@@ -123,6 +124,8 @@ abbrev pub takes_after : TradeCosts → ℕ → List Quote → ℕ → List Call
 takes_after costs lot first room past c = takes (ledger_after costs lot first room past) c
 
 pub record Demand3 (costs : TradeCosts) (lot : ℕ) (first : List Quote) (l₀ : List Trade) (cs : List Call) : Type 0 where
+  -- the builder draws nothing: it answers the broker from which the calls start
+  pub begun : build_for costs lot first l₀ ≡ Ok (built costs lot first l₀).broker
   -- an order taken waits until the next unrefused check, which books it; it has traded exactly when some unrefused check, later than the one that booked it,
   -- had a tradable row for its symbol that met its rule, the order not having been deleted before; once, in the first such check, at that row;
   -- the logged rows are these trades, check by check, in book order

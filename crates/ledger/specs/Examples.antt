@@ -1,9 +1,11 @@
 -- The table of proved examples of document 01, on the definitions that the program's contracts cite. Definitions only.
 use Rattle.std.specs.Prelude.{ℕ, false, ◌≡◌, pos, Float, set, take}
 use mathlib.Core.List.{List, [], ◌∷◌, foldl}
-use Rattle.std.specs.Prelude.{None, Some}
+use Rattle.std.specs.Prelude.{Option, None, Some}
 use Rattle.std.specs.Float.Ieee as Ieee
 use Rattle.std.specs.Float.{binary64}
+use Rattle.market.specs.declared.fault.Fault.{Fault}
+use Rattle.market.specs.declared.fault.Fault.TheVariants.{ExceedsCash, WithdrawFailed}
 use Rattle.market.specs.Orders.{market_order, priced_order}
 use Rattle.market.specs.Quotes.{empty_table, put_row}
 use Rattle.market.specs.declared.order.OrderType.TheVariants.{MarketSell, MarketBuy, LimitSell, StopBuy}
@@ -30,7 +32,8 @@ use Rattle.broker.specs.Build.{fresh_broker}
 use Rattle.broker.specs.Send.{send_of, with_funds}
 use Rattle.broker.specs.Cash.{with_cash, cash_of, withdraw_of}
 use Rattle.broker.specs.Liquidate.{liquidate_of}
-use Rattle.broker.specs.declared.cash.CashMoved.{CashMoved}
+use Rattle.broker.specs.declared.state.Told.{Told}
+use Rattle.account.specs.declared.BrokerCashEvent.{BrokerCashEvent}
 use Rattle.broker.specs.declared.state.UistBroker.{UistBroker}
 
 -- a row of the table: the example's number in 01, what is computed, and what it is
@@ -77,7 +80,7 @@ holding s n b =
 
 -- an exchange on which these orders wait
 abbrev pub waiting : List Order → UistV1
-waiting l = foldl (λ e o. (insert_of e o).exchange) (fresh 8) l
+waiting l = foldl (λ e o. (insert_of e o).state) (fresh 8) l
 
 abbrev pub buy : ℕ → ℕ → Order
 buy s n = market_order MarketBuy s (num n)
@@ -103,16 +106,16 @@ trades = trade Buy 10 100 ∷ trade Sell 10 120 ∷ trade Buy 5 60 ∷ []
 
 -- ---- what is computed
 
--- the number that a sent order draws, or 0: taken
-abbrev pub sent : UistBroker → Order → ℕ
+-- what a sent order draws: None where it is taken
+abbrev pub sent : UistBroker → Order → Option Fault
 sent b o = (send_of b o).event.fault
 
--- the number that a cash mover draws, or 0, and cash afterwards
-abbrev pub moved : CashMoved → ℕ × Float
+-- what a cash mover draws, and cash afterwards
+abbrev pub moved : Told BrokerCashEvent → Option Fault × Float
 moved x = (cash_fault x.event, cash_of x.broker)
 
--- the number, and the orders that wait afterwards
-abbrev pub sold : CashMoved → ℕ × List Order
+-- what is drawn, and the orders that wait afterwards
+abbrev pub sold : Told BrokerCashEvent → Option Fault × List Order
 sold x = (cash_fault x.event, waiting_of x.broker.exchange)
 
 -- the tick after the one that books the waiting orders: how many traded, and the book
@@ -133,17 +136,17 @@ planned b w = plan_of (money_of b.portfolio) w
 abbrev pub table : Float → List Example
 table other =
     -- cash 100, buy 1, ask 100: 7
-    example 1 (sent (broker no_costs (quote 1 other (num 100) ∷ []) 100) (buy 1 1)) 7 ∷
+    example 1 (sent (broker no_costs (quote 1 other (num 100) ∷ []) 100) (buy 1 1)) (Some ExceedsCash) ∷
     -- ask 99: taken
-    example 2 (sent (broker no_costs (quote 1 other (num 99) ∷ []) 100) (buy 1 1)) 0 ∷
+    example 2 (sent (broker no_costs (quote 1 other (num 99) ∷ []) 100) (buy 1 1)) None ∷
     -- withdraw 100 of 100: cash 0
-    example 3 (moved (withdraw_of (broker no_costs [] 100) (num 100))) (0, num 0) ∷
+    example 3 (moved (withdraw_of (broker no_costs [] 100) (num 100))) (None, num 0) ∷
     -- withdraw 101: 12
-    example 4 (moved (withdraw_of (broker no_costs [] 100) (num 101))) (12, num 100) ∷
+    example 4 (moved (withdraw_of (broker no_costs [] 100) (num 101))) (Some WithdrawFailed, num 100) ∷
     -- cash 100, nothing held, liquidate 50: 12, cash 50
-    example 5 (moved (liquidate_of (broker no_costs [] 100) (num 50))) (12, num 50) ∷
+    example 5 (moved (liquidate_of (broker no_costs [] 100) (num 50))) (Some WithdrawFailed, num 50) ∷
     -- liquidate 101: 12, cash 100
-    example 6 (moved (liquidate_of (broker no_costs [] 100) (num 101))) (12, num 100) ∷
+    example 6 (moved (liquidate_of (broker no_costs [] 100) (num 101))) (Some WithdrawFailed, num 100) ∷
     -- limit sell without price, quoted: trades
     example 7 (second_tick (waiting (limit_sell 1 1 ∷ [])) (quoted (quote 1 other other ∷ []))) (1, []) ∷
     -- stop buy at 100, ask 99: rests
@@ -153,17 +156,17 @@ table other =
     (resting_of (tick_of (waiting (buy 1 1 ∷ sell 2 1 ∷ sell 3 1 ∷ [])) (quoted [])).exchange)
     (booked 0 (sell 2 1) ∷ booked 1 (sell 3 1) ∷ booked 2 (buy 1 1) ∷ []) ∷
     -- cash 1,000, weight 0.5, ask 30: buy 16
-    example 10 (planned (broker no_costs (quote 1 other (num 30) ∷ []) 1000) (weight 1 (halves 1) ∷ [])) (plan_as 0 (buy 1 16 ∷ [])) ∷
+    example 10 (planned (broker no_costs (quote 1 other (num 30) ∷ []) 1000) (weight 1 (halves 1) ∷ [])) (plan_as None (buy 1 16 ∷ [])) ∷
     -- cash 10, weight 0.5, ask 100, flat 10: sale of 1
-    example 11 (planned (broker (with_cost no_costs (Flat (num 10))) (quote 1 other (num 100) ∷ []) 10) (weight 1 (halves 1) ∷ [])) (plan_as 0 (sell 1 1 ∷ [])) ∷
+    example 11 (planned (broker (with_cost no_costs (Flat (num 10))) (quote 1 other (num 100) ∷ []) 10) (weight 1 (halves 1) ∷ [])) (plan_as None (sell 1 1 ∷ [])) ∷
     -- cash 1,000, weight 0 of an unheld symbol first: no order for later symbols
     example 12
     (planned (broker no_costs (quote 1 other other ∷ quote 2 other (num 30) ∷ []) 1000) (weight 1 (num 0) ∷ weight 2 (halves 1) ∷ []))
-    (plan_as 0 []) ∷
+    (plan_as None []) ∷
     -- buy 10 for 100, sell 10 for 120: no basis; buy 5 for 60: 12
     example 13 (cost_basis (take 2 trades) 1 ∷ cost_basis trades 1 ∷ []) (None ∷ Some (num 12) ∷ []) ∷
     -- hold 10 at bid 12.5, liquidate 26: sell 2
-    example 14 (sold (liquidate_of (holding 1 10 (broker no_costs (quote 1 (halves 25) other ∷ []) 0)) (num 26))) (0, sell 1 2 ∷ []) ∷ []
+    example 14 (sold (liquidate_of (holding 1 10 (broker no_costs (quote 1 (halves 25) other ∷ []) 0)) (num 26))) (None, sell 1 2 ∷ []) ∷ []
 
 -- the fourteen examples hold, whatever the other price
 abbrev pub Examples : Type 0
@@ -174,9 +177,9 @@ Examples = (other : Float) → AllHold (table other)
 abbrev pub lot_table : Float → List Example
 lot_table other =
     -- 500 / 30 is 16.7, down to 15
-    example 10 (planned (in_lots 5 no_costs (quote 1 other (num 30) ∷ []) 1000) (weight 1 (halves 1) ∷ [])) (plan_as 0 (buy 1 15 ∷ [])) ∷
+    example 10 (planned (in_lots 5 no_costs (quote 1 other (num 30) ∷ []) 1000) (weight 1 (halves 1) ∷ [])) (plan_as None (buy 1 15 ∷ [])) ∷
     -- (5 - 10) / 100 is -0.05, down to -5: a sale of 5
-    example 11 (planned (in_lots 5 (with_cost no_costs (Flat (num 10))) (quote 1 other (num 100) ∷ []) 10) (weight 1 (halves 1) ∷ [])) (plan_as 0 (sell 1 5 ∷ [])) ∷ []
+    example 11 (planned (in_lots 5 (with_cost no_costs (Flat (num 10))) (quote 1 other (num 100) ∷ []) 10) (weight 1 (halves 1) ∷ [])) (plan_as None (sell 1 5 ∷ [])) ∷ []
 
 abbrev pub LotExample : Type 0
 LotExample = (other : Float) → AllHold (lot_table other)

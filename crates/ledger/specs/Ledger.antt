@@ -1,10 +1,12 @@
 -- The plain ledger: document 01, section 6. It is fed the builder's arguments and the calls, and keeps nothing of the program's. Definitions only.
 use Rattle.std.specs.Prelude.{ℕ, Bool, false, not, cond, ltb, Float, length}
 use mathlib.Core.List.{List, [], ◌∷◌, ◌++◌, foldl}
-use Rattle.std.specs.Prelude.{None, is_some}
+use Rattle.std.specs.Prelude.{Option, None, Some, is_some}
 use Rattle.std.specs.Float.Ieee.Scale.{finite}
 use Rattle.lists.specs.Lists.{over, given}
 use Rattle.market.specs.Faults.{Test, ◌draws◌, drawn, unless_drawn}
+use Rattle.market.specs.declared.fault.Fault.{Fault}
+use Rattle.market.specs.declared.fault.Fault.TheVariants.{BadValue, BrokerFailed, WithdrawFailed, ListTooShort}
 use Rattle.market.specs.Orders.{zero64, event_of, order_tests}
 use Rattle.market.specs.Quotes.{table_tests}
 use Rattle.market.specs.Weights.{weight_rows}
@@ -49,7 +51,7 @@ with_orders L b = record { room = L.room; money = L.money; orders = b }
 abbrev pub room_tests : Ledger → List Test
 room_tests L = room_for L.room book_width L.orders
 
--- send: an order that draws no number is taken; it waits, and pending moves
+-- send: an order that draws nothing is taken; it waits, and pending moves
 unfoldable pub send_event : Ledger → Order → OrderEvent
 send_event L o = event_of o (drawn (send_tests L.money (room_tests L) o))
 
@@ -63,7 +65,7 @@ unfoldable pub send_events : Ledger → List Order → List OrderEvent
 send_events L [] = []
 send_events L (o ∷ l) = send_event L o ∷ send_events (sending L o) l
 
--- insertion: the same by its own numbers, pending kept
+-- insertion: the same by its own tests, pending kept
 unfoldable pub insert_event : Ledger → Order → OrderEvent
 insert_event L o = event_of o (drawn (order_tests o ++ room_tests L))
 
@@ -103,29 +105,29 @@ booking L t f =
 unfoldable pub checking : Ledger → List Quote → List Quote → Ledger
 checking L t f = rescuing (booking L t f)
 
--- ---- the numbers that a call draws before it acts, by the call and these fields; 16 is not drawn
+-- ---- what a call draws before it acts, by the call and these fields; Unsound is not drawn
 
 abbrev pub amount_tests : Float → List Test
-amount_tests a = (not (finite a) draws 2) ∷ []
+amount_tests a = (not (finite a) draws BadValue) ∷ []
 
 abbrev pub check_tests : List Quote → List Quote → List Test
 check_tests t f = table_tests 0 t ++ table_tests 0 f
 
 abbrev pub update_tests : List Quote → List Quote → List Weight → ℕ → List Test
-update_tests t f w room = (ltb room (length w) draws 15) ∷ (check_tests t f ++ weight_rows 0 w)
+update_tests t f w room = (ltb room (length w) draws ListTooShort) ∷ (check_tests t f ++ weight_rows 0 w)
 
 unfoldable pub call_tests : Ledger → Call → List Test
-call_tests L (deposit a) = amount_tests a ++ (L.money.failed draws 4) ∷ []
-call_tests L (withdraw a) = amount_tests a ++ (L.money.failed draws 4) ∷ (below L.money.cash a draws 12) ∷ []
+call_tests L (deposit a) = amount_tests a ++ (L.money.failed draws BrokerFailed) ∷ []
+call_tests L (withdraw a) = amount_tests a ++ (L.money.failed draws BrokerFailed) ∷ (below L.money.cash a draws WithdrawFailed) ∷ []
 call_tests L (liquidate a) = amount_tests a
 call_tests L (send o) = []
-call_tests L (send_list l e) = (ltb (length e) (length l) draws 15) ∷ []
+call_tests L (send_list l e) = (ltb (length e) (length l) draws ListTooShort) ∷ []
 call_tests L (insert o) = []
 call_tests L (delete n) = []
 call_tests L (check t f) = check_tests t f
 call_tests L (update t f w e) = update_tests t f w (length e)
 
--- ---- what a call does where those draw none
+-- ---- what a call does where those draw nothing
 
 abbrev pub after_weights : Ledger → List Weight → Ledger
 after_weights L w = sending_all L (plan_of L.money w).orders
@@ -141,30 +143,30 @@ acting L (delete n) = with_orders L (erase n L.orders)
 acting L (check t f) = checking L t f
 acting L (update t f w e) = after_weights (checking L t f) w
 
--- what draws a number, by these fields, changes nothing
+-- what is refused, by these fields, changes nothing
 unfoldable pub step : Ledger → Call → Ledger
 step L c = unless_drawn (drawn (call_tests L c)) (acting L c) L
 
--- ---- what a call answers, n being the number that it drew before acting
+-- ---- what a call answers, d being what it drew before acting
 
--- a plan that draws a number lists no order: the check stands, the total is 0.0, and no event is written
+-- a plan that is refused lists no order: the check stands, the total is 0.0, and no event is written
 abbrev pub weigh_answer : Ledger → Plan → List OrderEvent → Answer
 weigh_answer L p e = updated p.fault (unless_drawn p.fault (total_value L.money) zero64) (length p.orders) (over (send_events L p.orders) e)
 
--- a cash mover: its success with the amount, or its number with the amount
-abbrev pub moved_as : (Float → Answer) → ℕ → Float → Answer
-moved_as done n a = unless_drawn n (done a) (refused n a)
+-- a cash mover: its success with the amount, or what it drew with the amount
+abbrev pub moved_as : (Float → Answer) → Option Fault → Float → Answer
+moved_as done d a = unless_drawn d (done a) (refused d a)
 
-unfoldable pub answer_as : ℕ → Ledger → Call → Answer
-answer_as n L (deposit a) = moved_as deposited n a
-answer_as n L (withdraw a) = moved_as withdrawn n a
-answer_as n L (liquidate a) = moved_as withdrawn (unless_drawn n (cond (succeeds L a) 0 12) n) a
-answer_as n L (send o) = event (send_event L o)
-answer_as n L (send_list l e) = events n (unless_drawn n (over (send_events L l) e) e)
-answer_as n L (insert o) = event (insert_event L o)
-answer_as n L (delete m) = fault n
-answer_as n L (check t f) = traded n (unless_drawn n (length (fills_of t L.orders.booked)) 0)
-answer_as n L (update t f w e) = unless_drawn n (weigh_answer (checking L t f) (plan_of (checking L t f).money w) e) (updated n zero64 0 e)
+unfoldable pub answer_as : Option Fault → Ledger → Call → Answer
+answer_as d L (deposit a) = moved_as deposited d a
+answer_as d L (withdraw a) = moved_as withdrawn d a
+answer_as d L (liquidate a) = moved_as withdrawn (unless_drawn d (cond (succeeds L a) None (Some WithdrawFailed)) d) a
+answer_as d L (send o) = event (send_event L o)
+answer_as d L (send_list l e) = events d (unless_drawn d (over (send_events L l) e) e)
+answer_as d L (insert o) = event (insert_event L o)
+answer_as d L (delete n) = fault d
+answer_as d L (check t f) = traded d (unless_drawn d (length (fills_of t L.orders.booked)) 0)
+answer_as d L (update t f w e) = unless_drawn d (weigh_answer (checking L t f) (plan_of (checking L t f).money w) e) (updated d zero64 0 e)
 
 abbrev pub answer : Ledger → Call → Answer
 answer L c = answer_as (drawn (call_tests L c)) L c

@@ -1,11 +1,13 @@
 -- The program over a list of calls, by its own definitions: each call finds the broker and the log as the last call left them. Definitions only.
 use Rattle.std.specs.Prelude.{ℕ, List, [], ◌∷◌}
+use Rattle.std.specs.Result.{result_unwrap_or}
 use Rattle.market.specs.declared.quote.Quote.{Quote}
 use Rattle.market.specs.declared.trade.Trade.{Trade}
 use Rattle.costs.specs.declared.TradeCosts.{TradeCosts}
 use Rattle.account.specs.Account.{cash_fault, cash_amount}
 use Rattle.account.specs.declared.BrokerCashEvent.{BrokerCashEvent}
 use Rattle.account.specs.declared.BrokerCashEvent.TheVariants.{WithdrawSuccess, WithdrawFailure, DepositSuccess, OperationFailure, NotFinite, Broken}
+use Rattle.broker.specs.Build.{no_broker}
 use Rattle.broker.specs.Send as Send
 use Rattle.broker.specs.Cash.{deposit_of, withdraw_of}
 use Rattle.broker.specs.Liquidate.{liquidate_of}
@@ -17,9 +19,9 @@ pub record Held : Type 0 where
   pub broker : UistBroker
   pub log : List Trade
 
--- what the builder makes for a log
+-- the broker that the builder answers for a log, and `no_broker` where it draws something; and the log
 abbrev pub built : TradeCosts → ℕ → List Quote → List Trade → Held
-built costs lot first log = record { broker = (build_for costs lot first log).broker; log = log }
+built costs lot first log = record { broker = result_unwrap_or (build_for costs lot first log) no_broker; log = log }
 
 abbrev pub with_broker : Held → UistBroker → Held
 with_broker s b = record { broker = b; log = s.log }
@@ -31,14 +33,14 @@ step s (liquidate a) = with_broker s (liquidate_of s.broker a).broker
 step s (send o) = with_broker s (Send.send_of s.broker o).broker
 step s (send_list l e) = with_broker s (send_list_broker s.broker l e)
 step s (insert o) = with_broker s (Send.insert_of s.broker o).broker
-step s (delete n) = with_broker s (Send.delete_of s.broker n).broker
+step s (delete n) = with_broker s (Send.delete_of s.broker n).state
 step s (check t f) = record { broker = check_broker s.broker t f s.log; log = check_log s.broker t f s.log }
 step s (update t f w e) = record { broker = update_broker s.broker t f w e s.log; log = update_log s.broker t f w e s.log }
 
 abbrev pub refused_by : BrokerCashEvent → Answer
 refused_by e = refused (cash_fault e) (cash_amount e)
 
--- what an event says: each success by itself; of the others the number and the amount
+-- what an event says: each success by itself; of the others what was drawn and the amount
 abbrev pub cash_answer : BrokerCashEvent → Answer
 cash_answer (DepositSuccess a) = deposited (cash_amount (DepositSuccess a))
 cash_answer (WithdrawSuccess a) = withdrawn (cash_amount (WithdrawSuccess a))

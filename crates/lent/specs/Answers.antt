@@ -1,5 +1,8 @@
 -- What the broker's calls on lent lists answer, and what the lists hold after them. Definitions only.
-use Rattle.std.specs.Prelude.{◌≤◌, ◌≡◌, List}
+use Rattle.std.specs.Prelude.{ℕ, ◌≤◌, ◌≡◌, List, Result}
+use Rattle.market.specs.Faults.{ok_unless}
+use Rattle.market.specs.declared.fault.Fault.{Fault}
+use Rattle.market.specs.declared.fault.After.{After}
 use Rattle.market.specs.declared.order.Order.{Order}
 use Rattle.market.specs.declared.quote.Quote.{Quote}
 use Rattle.market.specs.declared.trade.Trade.{Trade}
@@ -9,8 +12,6 @@ use Rattle.broker.specs.declared.state.UistBroker.{UistBroker}
 use Rattle.market.specs.declared.order.OrderEvent.{OrderEvent}
 use Rattle.lent.specs.Walks.{walk_fault, walk_count, walk_orders}
 use Rattle.lent.specs.declared.uist.CheckAnswer.{CheckAnswer}
-use Rattle.lent.specs.declared.uist.SendAnswer.{SendAnswer}
-use Rattle.lent.specs.declared.uist.WalkAnswer.{WalkAnswer}
 use Rattle.lent.specs.declared.uist.UpdateAnswer.{UpdateAnswer}
 
 -- a check; `after` is the log at exit
@@ -22,15 +23,14 @@ pub record AnswersCheck (b : UistBroker) (t f : List Quote) (log : List Trade) (
   pub log_is : after ≡ check_log b t f log
 
 -- a list of orders sent; `after` is the list of events at exit
-pub record AnswersSend (b : UistBroker) (l : List Order) (e : List OrderEvent) (r : SendAnswer) (after : List OrderEvent) : Type 0 where
-  pub broker : r.broker ≡ send_list_broker b l e
+pub record AnswersSend (b : UistBroker) (l : List Order) (e : List OrderEvent) (r : After UistBroker) (after : List OrderEvent) : Type 0 where
+  pub broker : r.state ≡ send_list_broker b l e
   pub fault : r.fault ≡ send_list_fault b l e
   pub events : after ≡ send_list_events b l e
 
--- the walk alone; `after` is the list of orders at exit
-pub record AnswersWalk (b : UistBroker) (w : List Weight) (o : List Order) (r : WalkAnswer) (after : List Order) : Type 0 where
-  pub count : r.count ≡ walk_count b w o
-  pub fault : r.fault ≡ walk_fault b w o
+-- the walk alone: how many orders, or what was drawn; `after` is the list of orders at exit
+pub record AnswersWalk (b : UistBroker) (w : List Weight) (o : List Order) (r : Result ℕ Fault) (after : List Order) : Type 0 where
+  pub answer : r ≡ ok_unless (walk_fault b w o) (walk_count b w)
   pub orders : after ≡ walk_orders b w o
 
 -- an update; `told` is the list of events at exit, and `after` the log

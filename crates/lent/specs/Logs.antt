@@ -1,7 +1,9 @@
--- Cost basis and turnover of a lent log: document 01, sections 4 and 7, with the numbers of those who ask. Definitions only.
-use Rattle.std.specs.Prelude.{ℕ, ltb, take}
+-- Cost basis and turnover of a lent log: document 01, sections 4 and 7, with what those who ask draw. Definitions only.
+use Rattle.std.specs.Prelude.{ℕ, ltb, take, Option}
 use mathlib.Core.List.{List, [], ◌∷◌, foldl}
 use Rattle.market.specs.Faults.{◌draws◌, drawn}
+use Rattle.market.specs.declared.fault.Fault.{Fault}
+use Rattle.market.specs.declared.fault.Fault.TheVariants.{UnknownSymbol}
 use Rattle.market.specs.declared.trade.Trade.{Trade}
 use Rattle.rules.specs.Basis as Rules
 use Rattle.rules.specs.Basis.{basis_step}
@@ -14,11 +16,11 @@ abbrev pub logged_in : UistBroker → List Trade → List Trade
 logged_in b log = take b.exchange.counts.logged log
 
 -- turnover: 16; cost basis: 16, then 1 for a symbol above 255
-abbrev pub turnover_fault : UistBroker → List Trade → ℕ
+abbrev pub turnover_fault : UistBroker → List Trade → Option Fault
 turnover_fault b log = drawn (log_test b log ∷ [])
 
-abbrev pub basis_fault : UistBroker → List Trade → ℕ → ℕ
-basis_fault b log s = drawn (log_test b log ∷ (ltb 255 s draws 1) ∷ [])
+abbrev pub basis_fault : UistBroker → List Trade → ℕ → Option Fault
+basis_fault b log s = drawn (log_test b log ∷ (ltb 255 s draws UnknownSymbol) ∷ [])
 
 -- ---- the fold
 

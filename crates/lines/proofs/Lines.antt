@@ -18,7 +18,7 @@ use Rattle.std.specs.List.{All, IsFirstMatchOrLen}
 use Rattle.std.specs.Option.{MatchOption}
 use Rattle.std.specs.Slice.Iter.{split_inclusive_rest, split_inclusive_callee}
 use Rattle.std.specs.declared.option.Option.{Option}
-use Rattle.std.specs.declared.option.Option.TheVariants.{None}
+use Rattle.std.specs.declared.option.Option.TheVariants.{None, Some}
 use Rattle.std.proofs.lemmas.Bool.{cases_lt}
 use Rattle.std.proofs.lemmas.Fn.{always_returns_same}
 use Rattle.std.proofs.lemmas.Grind.{common_steps}
@@ -146,6 +146,11 @@ module _ {F : Type 0} (g : Mut F (Bor ℕ × Unit {0}) Bool) where
       (m.0, first_part (split_inclusive_rest t) x.now (split_inclusive_rest u) k.1.0 k.0 m.1 k.2 k.1.1))
       s (subst (ComputesKey g newline_at) (sym closure) (always_returns_same g (λ a r. r ≡ newline_at a.0.now) f (λ a r q k. let m = tests a.0.now r q (record { shown = a.0; shows = refl; called = k }) in (m.1, m.0)))))
 
+-- the line that stands before a newline
+abbrev pub line_before : Option (Bor (List ℕ)) → Option Line
+line_before None = None
+line_before (Some x) = line_in x.now
+
 -- the line of the part that comes behind k others
 module _ (ls : List (Option Line)) (p : List ℕ) (k : ℕ) (t : (k < length ls) × (part_line p ≡ get_or ls k (part_line p))) where
   next_of : (o : Option Line) → part_line p ≡ o → drop k ls ≡ o ∷ drop (k + 1) ls
@@ -153,8 +158,8 @@ module _ (ls : List (Option Line)) (p : List ℕ) (k : ℕ) (t : (k < length ls)
       let one : suc k ≡ k + 1 = omega arith in
       drop-cons ls k (part_line p) t.0 ∙ ap (λ (q : Option Line). q ∷ drop (suc k) ls) (sym t.1 ∙ e) ∙ ap (λ (n : ℕ). o ∷ drop n ls) one
 
-  pub next-line : {text : List ℕ} → (has_end p ≡ true) × (text ≡ take (length p - 1) p) × (length text + 1 ≡ length p) → drop k ls ≡ line_in text ∷ drop (k + 1) ls
-  next-line {text} h = next_of (line_in text) (ap (λ (b : Bool). cond b (line_in (take (length p - 1) p)) None) h.0 ∙ ap line_in (sym h.1))
-
-  pub last_line : has_end p ≡ false → drop k ls ≡ None ∷ drop (k + 1) ls
-  last_line h = next_of None (ap (λ (b : Bool). cond b (line_in (take (length p - 1) p)) None) h)
+  -- by what stands before its newline, where it has one
+  pub next_line : (r : Option (Bor (List ℕ))) → MatchOption r (has_end p ≡ false) (λ x. (has_end p ≡ true) × (x.now ≡ take (length p - 1) p) × (length x.now + 1 ≡ length p)) →
+      drop k ls ≡ line_before r ∷ drop (k + 1) ls
+  next_line None h = next_of None (ap (λ (b : Bool). cond b (line_in (take (length p - 1) p)) None) h)
+  next_line (Some x) h = next_of (line_in x.now) (ap (λ (b : Bool). cond b (line_in (take (length p - 1) p)) None) h.0 ∙ ap line_in (sym h.1))

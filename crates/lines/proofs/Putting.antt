@@ -7,7 +7,7 @@ use lib.ListN.{length, get_or, take, drop, set, length-append, length-drop, take
 use lib.Seq.{drop-cons, drop-drop, set_at, take_at, drop-append-add, append_snoc, take_all, paste, length_paste_head, length-take-le}
 use Rattle.std.proofs.lemmas.Slice.{put_mid-paste}
 use borrow.Rule.Slice.PartMut.{put_mid}
-use Rattle.lists.specs.Lists.{over, stored}
+use Rattle.lists.specs.Lists.{stored}
 use Rattle.numerals.specs.Numerals.{digits, Spells}
 use Rattle.numerals.specs.declared.spelled.Spelled.{Spelled}
 use Rattle.numerals.proofs.Decimals.{length_digits, places-most}
@@ -75,12 +75,6 @@ more-put x y at d m e n f h a b =
           ∙ ap (λ (l : List ℕ). l ++ drop (at + length x + length y) d) (append_assoc (take at d) x y)
           ∙ ap (λ (k : ℕ). take at d ++ (x ++ y) ++ drop k d) j;
     }
-
--- what is put first stands over what was there
-pub first-put : (x : List ℕ) (d : List ℕ) (n : ℕ) (e : List ℕ) → Puts x 0 d n e → (n ≡ length x) × (e ≡ over x d)
-first-put x d n e p =
-    let z : 0 + length x ≡ length x = omega arith in
-    (p.end ∙ z, p.buffer ∙ ap (λ (k : ℕ). x ++ drop k d) z)
 
 -- ---- how far the puts from a place on have come
 

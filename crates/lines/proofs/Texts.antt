@@ -1,4 +1,5 @@
 -- The text of a table by symbol, as it is put symbol by symbol. Assumes nothing.
+use Rattle.std.specs.declared.option.Option.TheVariants.{None}
 use Prim.Native.Nat.{ℕ, ◌+◌, ◌*◌, ◌≤◌, ◌<◌}
 use mathlib.Core.Path.{◌≡◌, ap, sym, subst, ◌∙◌}
 use mathlib.Core.List.{List, [], ◌++◌}
@@ -6,13 +7,14 @@ use native.Mathlib.Omega.{arith}
 use borrow.Author.Tests.{ltb-false}
 use lib.ListN.{length, get_or, take}
 use lib.Seq.{take_all}
-use Rattle.lists.specs.Lists.{span, over, gather}
+use Rattle.lists.specs.Lists.{span, gather}
 use Rattle.lists.proofs.Keep.{gather-more}
 use Rattle.lists.proofs.Spans.{length-span, span-at}
-use Rattle.market.proofs.Faults.{unless-some, unless-none, first-none, none-drawn}
+use Rattle.market.proofs.Faults.{first-none, none-drawn}
 use Rattle.market.specs.declared.table.Table.{Table}
-use Rattle.lines.specs.Writing.{line_at, table_text, table_fault, table_written, WritesTable, Puts}
-use Rattle.lines.proofs.Putting.{none-put, more-put, first-put, Room, room-start, room-more}
+use Rattle.lines.specs.Writing.{line_at, table_text, table_fault, Puts}
+use Rattle.lines.proofs.Putting.{none-put, more-put, Room, room-start, room-more}
+use Rattle.market.specs.declared.fault.Fault.TheVariants.{ListTooShort}
 
 -- the text of the first i symbols
 abbrev text-to : Table → ℕ → List ℕ
@@ -63,25 +65,5 @@ module _ {t : Table} {d e : List ℕ} {at i : ℕ} (v : PutTo t d e at i) (long 
 
 module _ (t : Table) (d : List ℕ) where
   -- a table that draws nothing has a buffer that is long enough
-  pub fault-room : table_fault (length d) t ≡ 0 → 15104 ≤ length d
-  fault-room e = ltb-false (length d) 15104 (none-drawn _ 14 [] (first-none _ t.fault e).0).0
-
-  -- a number is drawn: the buffer is as it was
-  pub refuses-write : (f : ℕ) → f ≡ table_fault (length d) t → (f ≡ 0 → ⊥) → WritesTable t d (record { bytes = 0; fault = f }) d
-  refuses-write f e z =
-      let none_written : [] ≡ table_written (length d) t = unless-some _ _ [] (λ y. z (e ∙ y)) in
-      record {
-        answer = ap (λ (n : ℕ). record { bytes = 0; fault = n }) e ∙ ap (λ (l : List ℕ). record { bytes = length l; fault = table_fault (length d) t }) none_written;
-        buffer = ap (λ (l : List ℕ). over l d) none_written;
-      }
-
-  pub writes : (n : ℕ) (e : List ℕ) → table_fault (length d) t ≡ 0 → Puts (table_text t) 0 d n e → WritesTable t d (record { bytes = n; fault = 0 }) e
-  writes n e z p =
-      let all-written : table_text t ≡ table_written (length d) t = unless-none _ (table_text t) [] z in
-      let put = first-put (table_text t) d n e p in
-      record {
-        answer =
-            ap (λ (k : ℕ). record { bytes = k; fault = 0 }) (put.0 ∙ ap length all-written)
-            ∙ ap (λ (k : ℕ). record { bytes = length (table_written (length d) t); fault = k }) (sym z);
-        buffer = put.1 ∙ ap (λ (l : List ℕ). over l d) all-written;
-      }
+  pub fault_room : table_fault (length d) t ≡ None → 15104 ≤ length d
+  fault_room e = ltb-false (length d) 15104 (none-drawn _ ListTooShort [] (first-none _ t.fault e).0).0

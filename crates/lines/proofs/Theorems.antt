@@ -1,5 +1,5 @@
 -- The theorems of quote lines: a table's text is read back as that table, and what is read has no other text. Assumes nothing.
-use Prim.Native.Nat.{ℕ, zero, suc, ◌+◌, ◌*◌, ◌^◌, ◌≤◌, ◌<◌, min}
+use Prim.Native.Nat.{ℕ, ◌+◌, ◌*◌, ◌^◌, ◌≤◌, ◌<◌, min}
 use mathlib.Core.Bool.{true, false, not}
 use mathlib.Core.Path.{◌≡◌, refl, ap, ap₂, sym, ◌∙◌}
 use mathlib.Core.List.{List, [], ◌∷◌, ◌++◌, append_assoc}
@@ -14,11 +14,13 @@ use lib.ListN.{length, length-append}
 use Rattle.std.specs.List.{All as Each}
 use Rattle.std.proofs.lemmas.List.Elements.{All-nil, All-cons}
 use Rattle.lists.specs.Lists.{All}
-use Rattle.market.specs.Faults.{Test, drawn, unless_drawn}
+use Rattle.market.specs.Faults.{Test, drawn, unless_drawn, first_drawn}
+use Rattle.market.specs.declared.fault.Fault.{Fault}
+use Rattle.market.specs.declared.fault.Fault.TheVariants.{UnknownSymbol, BadValue, ListTooShort, MalformedLine, TextTooLong}
 use Rattle.market.specs.Quotes.{is_price, row_tests, table_tests}
 use Rattle.market.specs.Rows.{rows_tests}
 use Rattle.market.specs.declared.quote.Quote.{Quote}
-use Rattle.market.proofs.Faults.{drawn-append, append-none, none-drawn, unless-none, test-fails}
+use Rattle.market.proofs.Faults.{some-drawn, drawn-append, append-none, none-drawn, unless-none, test-fails}
 use Rattle.market.proofs.Rows.{good-all, good-few}
 use Rattle.market.proofs.Tables.{quote-laws, row-ascends, rows_none}
 use Rattle.words.specs.Words.{split}
@@ -33,30 +35,30 @@ use Rattle.lines.specs.Writing.{write_fault, text_written}
 use Rattle.lines.proofs.Cuts.{joined, joined-split}
 use Rattle.lines.proofs.Forms.{line-lacks, line_read, line-said, line-is}
 use Rattle.lines.proofs.Lines.{no_lines, line-cut}
-use Rattle.lines.proofs.Loading.{line-numbered, malformed-draws, none-drew}
+use Rattle.lines.proofs.Loading.{malformed-draws, none-drew}
 use Rattle.lines.proofs.Putting.{symbol-fits}
 
 -- ---- lines that draw nothing
 
 -- where lines draw nothing, the first does not, nor do the others
-lines_none : (least : ℕ) (o : Option Line) (ls : List (Option Line)) → drawn (rows_tests line_tests line_symbol least (o ∷ ls)) ≡ 0 → (drawn (line_tests least o) ≡ 0) × (drawn (rows_tests line_tests line_symbol (line_symbol o + 1) ls) ≡ 0)
-lines_none least o ls e = append-none (line_tests least o) (rows_tests line_tests line_symbol (line_symbol o + 1) ls) (line-numbered least o) e
+lines_none : (least : ℕ) (o : Option Line) (ls : List (Option Line)) → drawn (rows_tests line_tests line_symbol least (o ∷ ls)) ≡ None → (drawn (line_tests least o) ≡ None) × (drawn (rows_tests line_tests line_symbol (line_symbol o + 1) ls) ≡ None)
+lines_none least o ls e = append-none (line_tests least o) (rows_tests line_tests line_symbol (line_symbol o + 1) ls) e
 
 -- so the first is of the form
-form-first : (least : ℕ) (ls : List (Option Line)) → drawn (rows_tests line_tests line_symbol least (None ∷ ls)) ≡ 0 → ⊥
-form-first least ls e = omega (arith, malformed-draws least, (lines_none least None ls e).0)
+form-first : (least : ℕ) (ls : List (Option Line)) → drawn (rows_tests line_tests line_symbol least (None ∷ ls)) ≡ None → ⊥
+form-first least ls e = some-drawn MalformedLine (sym (malformed-draws least) ∙ (lines_none least None ls e).0)
 
-rows-sound : (least : ℕ) (ls : List (Option Line)) → drawn (rows_tests line_tests line_symbol least ls) ≡ 0 → drawn (table_tests least (rows_in ls)) ≡ 0
+rows-sound : (least : ℕ) (ls : List (Option Line)) → drawn (rows_tests line_tests line_symbol least ls) ≡ None → drawn (table_tests least (rows_in ls)) ≡ None
 rows-sound least [] e = e
 rows-sound least (None ∷ ls) e = absurd (form-first least ls e)
 rows-sound least (Some l ∷ ls) e =
     let d = lines_none least (Some l) ls e in
-    drawn-append (row_tests least (quote_of l)) (table_tests (l.symbol + 1) (rows_in ls)) (quote-laws.numbered least (quote_of l))
-    ∙ sym (unless-none _ _ _ d.0)
+    drawn-append (row_tests least (quote_of l)) (table_tests (l.symbol + 1) (rows_in ls))
+    ∙ ap (λ (f : Option Fault). first_drawn f (drawn (table_tests (l.symbol + 1) (rows_in ls)))) d.0
     ∙ rows-sound (l.symbol + 1) ls d.1
 
 -- rows that draw nothing are at most 256
-rows_few : (t : List Quote) → drawn (table_tests 0 t) ≡ 0 → length t ≤ 256
+rows_few : (t : List Quote) → drawn (table_tests 0 t) ≡ None → length t ≤ 256
 rows_few t e =
     omega (
       arith,
@@ -66,33 +68,33 @@ rows_few t e =
 
 -- ---- what is read
 
-none_read : (room : ℕ) (s : List ℕ) → read_fault room s ≡ 0 → (256 ≤ room) × (lines_fault s ≡ 0)
+none_read : (room : ℕ) (s : List ℕ) → read_fault room s ≡ None → (256 ≤ room) × (lines_fault s ≡ None)
 unfolding read_fault
 none_read room s e =
-    let a = none-drawn _ 14 _ e in
-    let b = none-drawn _ 19 _ a.1 in
+    let a = none-drawn _ ListTooShort _ e in
+    let b = none-drawn _ TextTooLong _ a.1 in
     (ltb-false room 256 a.0, b.1)
 
 -- it is nothing, or the rows of lines that draw nothing
-read_by : (P : List Quote → Type 0) (room : ℕ) (s : List ℕ) → P [] → (256 ≤ room → lines_fault s ≡ 0 → P (rows_in (lines_of s))) → P (rows_read room s)
+read_by : (P : List Quote → Type 0) (room : ℕ) (s : List ℕ) → P [] → (256 ≤ room → lines_fault s ≡ None → P (rows_in (lines_of s))) → P (rows_read room s)
 unfolding rows_read
 read_by P room s p f = go (read_fault room s) refl
   where
-    go : (n : ℕ) → read_fault room s ≡ n → P (unless_drawn n (rows_in (lines_of s)) [])
-    go zero e = f (none_read room s e).0 (none_read room s e).1
-    go (suc n) e = p
+    go : (d : Option Fault) → read_fault room s ≡ d → P (unless_drawn d (rows_in (lines_of s)) [])
+    go None e = f (none_read room s e).0 (none_read room s e).1
+    go (Some k) e = p
 
 pub rows_fit : RowsFit
 rows_fit room s = read_by (λ t. length t ≤ min room 256) room s (omega arith) (λ h e. omega (arith, rows_few (rows_in (lines_of s)) (rows-sound 0 (lines_of s) e)))
 
 pub read-sound : ReadSound
-read-sound room s = read_by (λ t. drawn (table_tests 0 t) ≡ 0) room s (none-drew 0) (λ h e. rows-sound 0 (lines_of s) e)
+read-sound room s = read_by (λ t. drawn (table_tests 0 t) ≡ None) room s (none-drew 0) (λ h e. rows-sound 0 (lines_of s) e)
 
 pub sound-text : SoundText
 unfolding text_written write_fault
 sound-text room out s h =
     let t = rows_read room s in
-    sym (unless-none _ (text_of t) [] (test-fails (ltb out 15104) 15 (table_tests 0 t) (le-ltb out 15104 h) ∙ read-sound room s))
+    sym (unless-none _ (text_of t) [] (test-fails (ltb out 15104) ListTooShort (table_tests 0 t) (le-ltb out 15104 h) ∙ read-sound room s))
 
 -- ---- each row that is read is of 64 bits
 
@@ -128,21 +130,21 @@ price-some nan e = let z : ◌≡◌ {A = ℕ} 0 1 = cc in absurd (omega arith)
 price-some (inf s) e = let z : ◌≡◌ {A = ℕ} 0 1 = cc in absurd (omega arith)
 price-some (fin s m d) e = tt
 
-row-priced : (least : ℕ) (q : Quote) → drawn (row_tests least q) ≡ 0 → (is_price q.bid ≡ true) × (is_price q.ask ≡ true)
+row-priced : (least : ℕ) (q : Quote) → drawn (row_tests least q) ≡ None → (is_price q.bid ≡ true) × (is_price q.ask ≡ true)
 row-priced least q e =
-    let a = none-drawn _ 0 _ e in
-    let b = none-drawn _ 1 _ a.1 in
+    let a = none-drawn _ UnknownSymbol _ e in
+    let b = none-drawn _ BadValue _ a.1 in
     and-true (is_price q.bid) (is_price q.ask) (not-false _ b.0)
 
 bits-same : (n : ℕ) → n < 2 ^ 64 → is_price (of_bits binary64 n) ≡ true → to_bits binary64 (of_bits binary64 n) ≡ n
 bits-same n h e = to_bits-of_bits binary64 n h (price-some _ e)
 
-line_same : (least : ℕ) (l : Line) → Said l → drawn (row_tests least (quote_of l)) ≡ 0 → line_for l.symbol (quote_of l) ≡ l
+line_same : (least : ℕ) (l : Line) → Said l → drawn (row_tests least (quote_of l)) ≡ None → line_for l.symbol (quote_of l) ≡ l
 line_same least l h e =
     let p = row-priced least (quote_of l) e in
     ap₂ (λ (b a : ℕ). record { symbol = l.symbol; date = l.date; bid = b; ask = a }) (bits-same l.bid h.bid p.0) (bits-same l.ask h.ask p.1)
 
-one_line : (least : ℕ) (s : List ℕ) (o : Option Line) (ls : List (Option Line)) (r : List ℕ) → line_in s ≡ o → drawn (rows_tests line_tests line_symbol least (o ∷ ls)) ≡ 0 → ((m : ℕ) → drawn (rows_tests line_tests line_symbol m ls) ≡ 0 → text_of (rows_in ls) ≡ r) → text_of (rows_in (o ∷ ls)) ≡ s ++ 10 ∷ r
+one_line : (least : ℕ) (s : List ℕ) (o : Option Line) (ls : List (Option Line)) (r : List ℕ) → line_in s ≡ o → drawn (rows_tests line_tests line_symbol least (o ∷ ls)) ≡ None → ((m : ℕ) → drawn (rows_tests line_tests line_symbol m ls) ≡ None → text_of (rows_in ls) ≡ r) → text_of (rows_in (o ∷ ls)) ≡ s ++ 10 ∷ r
 one_line least s None ls r i e f = absurd (form-first least ls e)
 one_line least s (Some l) ls r i e f =
     let d = lines_none least (Some l) ls e in
@@ -150,7 +152,7 @@ one_line least s (Some l) ls r i e f =
     ∙ append_assoc s newline (text_of (rows_in ls))
     ∙ ap (λ (k : List ℕ). s ++ 10 ∷ k) (f (l.symbol + 1) d.1)
 
-one-parts : (least : ℕ) (ps : List (List ℕ)) → drawn (rows_tests line_tests line_symbol least (lines_in ps)) ≡ 0 → text_of (rows_in (lines_in ps)) ≡ joined 10 ps
+one-parts : (least : ℕ) (ps : List (List ℕ)) → drawn (rows_tests line_tests line_symbol least (lines_in ps)) ≡ None → text_of (rows_in (lines_in ps)) ≡ joined 10 ps
 one-parts least [] e = refl
 one-parts least ([] ∷ []) e = refl
 one-parts least ((b ∷ s) ∷ []) e = absurd (form-first least [] e)
@@ -177,7 +179,7 @@ row-length q h s =
     simp length-append (omega arith)
 
 -- 59 bytes for each symbol from `least` on
-text-most : (least : ℕ) (t : List Quote) → Held t → drawn (table_tests least t) ≡ 0 → least ≤ 256 → 59 * least + length (text_of t) ≤ 15104
+text-most : (least : ℕ) (t : List Quote) → Held t → drawn (table_tests least t) ≡ None → least ≤ 256 → 59 * least + length (text_of t) ≤ 15104
 text-most least [] h e l = omega arith
 text-most least (q ∷ t) h e l =
     let d = rows_none least q t e in
@@ -232,9 +234,9 @@ pub reads-text : ReadsText
 unfolding read_fault rows_read
 reads-text room t wide h e =
     let s = text_of t in
-    let f : read_fault room s ≡ 0
-    = test-fails (ltb room 256) 15 _ (le-ltb room 256 wide)
-    ∙ test-fails (ltb 65536 (length s)) 20 _ (le-ltb 65536 (length s) (omega (arith, text-fits t h e)))
+    let f : read_fault room s ≡ None
+    = test-fails (ltb room 256) ListTooShort _ (le-ltb room 256 wide)
+    ∙ test-fails (ltb 65536 (length s)) TextTooLong _ (le-ltb 65536 (length s) (omega (arith, text-fits t h e)))
     ∙ ap (λ (ls : List (Option Line)). drawn (rows_tests line_tests line_symbol 0 ls)) (lines-read t h)
     ∙ ap drawn (same_tests 0 t h)
     ∙ e in

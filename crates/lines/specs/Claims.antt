@@ -1,6 +1,5 @@
 -- What is proved of quote lines beside the contracts: which texts are lines, that a table's text is read back, that it is the only one, and how long it is. Definitions only.
-use Rattle.std.specs.Prelude.{ℕ, ◌^◌, ◌≤◌, ◌<◌, min, List, ◌≡◌, T, length}
-use Rattle.std.specs.Prelude.{Some}
+use Rattle.std.specs.Prelude.{ℕ, ◌^◌, ◌≤◌, ◌<◌, min, List, ◌≡◌, T, length, None, Some}
 use Rattle.std.specs.Float.{binary64}
 use Rattle.std.specs.Float.Ieee.{fits}
 use Rattle.std.specs.Int.{w64}
@@ -38,26 +37,26 @@ Held t = All HeldRow t
 
 -- a table whose rows draw no number: reading its text, to a lent table that is long enough, gives it back
 abbrev pub ReadsText : Type 0
-ReadsText = (room : ℕ) (t : List Quote) → 256 ≤ room → Held t → drawn (table_tests 0 t) ≡ 0 → (read_fault room (text_of t) ≡ 0) × (rows_read room (text_of t) ≡ t)
+ReadsText = (room : ℕ) (t : List Quote) → 256 ≤ room → Held t → drawn (table_tests 0 t) ≡ None → (read_fault room (text_of t) ≡ None) × (rows_read room (text_of t) ≡ t)
 
 -- what is read has just this text: the table's
 abbrev pub OneText : Type 0
-OneText = (room : ℕ) (s : List ℕ) → read_fault room s ≡ 0 → text_of (rows_read room s) ≡ s
+OneText = (room : ℕ) (s : List ℕ) → read_fault room s ≡ None → text_of (rows_read room s) ≡ s
 
 -- so two texts that are read as the same table are the same
 abbrev pub SameText : Type 0
-SameText = (room : ℕ) (s t : List ℕ) → read_fault room s ≡ 0 → read_fault room t ≡ 0 → rows_read room s ≡ rows_read room t → s ≡ t
+SameText = (room : ℕ) (s t : List ℕ) → read_fault room s ≡ None → read_fault room t ≡ None → rows_read room s ≡ rows_read room t → s ≡ t
 
 -- what is read is a table of the program, and draws no number; where a number was drawn there is no row
 abbrev pub RowsHeld : Type 0
 RowsHeld = (room : ℕ) (s : List ℕ) → Held (rows_read room s)
 
 abbrev pub ReadSound : Type 0
-ReadSound = (room : ℕ) (s : List ℕ) → drawn (table_tests 0 (rows_read room s)) ≡ 0
+ReadSound = (room : ℕ) (s : List ℕ) → drawn (table_tests 0 (rows_read room s)) ≡ None
 
 -- the text of a table has at most 256 lines of 59 bytes
 abbrev pub TextFits : Type 0
-TextFits = (t : List Quote) → Held t → drawn (table_tests 0 t) ≡ 0 → length (text_of t) ≤ 15104
+TextFits = (t : List Quote) → Held t → drawn (table_tests 0 t) ≡ None → length (text_of t) ≤ 15104
 
 -- what is read fits the lent table
 abbrev pub RowsFit : Type 0

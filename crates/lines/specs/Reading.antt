@@ -1,8 +1,10 @@
 -- The lines of an input, the numbers that they draw, and the rows that are read: document 02, request 2. Definitions only.
 use Rattle.std.specs.Prelude.{ℕ, min, true, List, [], ◌∷◌, ltb, ℤ, Float, length}
-use Rattle.std.specs.Prelude.{Option, None, Some}
+use Rattle.std.specs.Prelude.{Option, None, Some, Result}
 use Rattle.lists.specs.Lists.{gather, given}
-use Rattle.market.specs.Faults.{Test, ◌draws◌, drawn, unless_drawn}
+use Rattle.market.specs.Faults.{Test, ◌draws◌, drawn, unless_drawn, ok_unless}
+use Rattle.market.specs.declared.fault.Fault.{Fault}
+use Rattle.market.specs.declared.fault.Fault.TheVariants.{ListTooShort, MalformedLine, TextTooLong}
 use Rattle.market.specs.Quotes.{row_tests}
 pub use Rattle.market.specs.Quotes.{listing}
 use Rattle.market.specs.Rows.{rows_tests}
@@ -32,7 +34,7 @@ lines_of s = lines_in (split 10 s)
 
 -- per line: 19 not of the form, then 1 symbol above 255, 2 bid or ask not finite or not above zero, 3 row not ascending
 abbrev pub line_tests : ℕ → Option Line → List Test
-line_tests least None = (true draws 19) ∷ []
+line_tests least None = (true draws MalformedLine) ∷ []
 line_tests least (Some l) = row_tests least (quote_of l)
 
 -- the symbol that the next line's must pass; behind a line not of the form no line is read
@@ -42,10 +44,10 @@ line_symbol (Some l) = l.symbol
 
 -- 15 a lent table of fewer than 256 rows; 20 an input above 65,536 bytes; then the lines in order
 abbrev pub read_tests : ℕ → List ℕ → List Test
-read_tests room s = (ltb room 256 draws 15) ∷ (ltb 65536 (length s) draws 20) ∷ rows_tests line_tests line_symbol 0 (lines_of s)
+read_tests room s = (ltb room 256 draws ListTooShort) ∷ (ltb 65536 (length s) draws TextTooLong) ∷ rows_tests line_tests line_symbol 0 (lines_of s)
 
--- the number that reading draws, or 0
-unfoldable pub read_fault : ℕ → List ℕ → ℕ
+-- what reading draws
+unfoldable pub read_fault : ℕ → List ℕ → Option Fault
 read_fault room s = drawn (read_tests room s)
 
 -- ---- the rows
@@ -70,13 +72,13 @@ abbrev pub quote_with : Option ℕ → Option ℤ → Option Float → Option Fl
 quote_with symbol date bid ask =
     given symbol None (λ n. given date None (λ d. given bid None (λ b. given ask None (λ a. Some (record { symbol = min n 256; bid = b; ask = a; date = d })))))
 
--- what the lines alone come to, by the number that they draw
-abbrev pub lines_fault : List ℕ → ℕ
+-- what the lines alone draw, and what they come to
+abbrev pub lines_fault : List ℕ → Option Fault
 lines_fault s = drawn (rows_tests line_tests line_symbol 0 (lines_of s))
 
-unfoldable pub lines_read : List ℕ → QuoteRows
-lines_read s = listing (unless_drawn (lines_fault s) (rows_in (lines_of s)) []) (lines_fault s)
+unfoldable pub lines_read : List ℕ → Result QuoteRows Fault
+lines_read s = ok_unless (lines_fault s) (listing (rows_in (lines_of s)))
 
--- the rows that are read, how many they are, and the number drawn, or 0
-unfoldable pub read_of : ℕ → List ℕ → QuoteRows
-read_of room s = listing (rows_read room s) (read_fault room s)
+-- the rows that are read and how many they are, or what was drawn
+unfoldable pub read_of : ℕ → List ℕ → Result QuoteRows Fault
+read_of room s = ok_unless (read_fault room s) (listing (rows_read room s))

@@ -4,17 +4,11 @@ ghost use Rattle.lists.specs.Lists.{given};
 ghost use Rattle.lines.specs.Lines.{line_text, line_for, newline};
 ghost use Rattle.lines.specs.Writing.{table_text, table_fault, Puts, WritesTable};
 
+use market::fault::Fault;
 use market::quote::Quote;
 use market::table::{ReadTable, Table};
 use numerals::spelled;
 use numerals::spelled::Spelled;
-
-// How many bytes were written, and the number drawn, or 0.
-#[derive(Clone, Copy)]
-pub struct Written {
-    pub bytes: usize,
-    pub fault: u32,
-}
 
 // Puts a field and the byte that ends it behind the first `at` bytes, and answers where the next
 // starts.
@@ -64,24 +58,24 @@ fn put_rows(t: Table, out: &mut [u8]) -> usize
     at
 }
 
-// 15 for a buffer of fewer than 15,104 bytes, then the number that the table's rows drew, or 0.
-fn write_fault(room: usize, table: ReadTable) -> u32
+// 15 for a buffer of fewer than 15,104 bytes, then what the table's rows drew.
+#[tactic(auto, unfolding(market::specs::Faults::drawn))]
+fn write_fault(room: usize, table: ReadTable) -> Option<Fault>
     ensures { result ≡ table_fault room table.table }
 {
     if room < 15104 {
-        return 15;
+        return Some(Fault::ListTooShort);
     }
     table.fault()
 }
 
-// Writes the text of a table to the buffer's first bytes.
-pub fn write(table: ReadTable, out: &mut [u8]) -> Written
+// Writes the text of a table to the buffer's first bytes, and answers how many they are.
+#[tactic(auto, using(crate::proofs::Texts::fault_room))]
+pub fn write(table: ReadTable, out: &mut [u8]) -> Result<usize, Fault>
     ensures { WritesTable table.table out.old result out.new }
 {
-    let fault = write_fault(out.len(), table);
-    if fault != 0 {
-        return Written { bytes: 0, fault };
+    if let Some(fault) = write_fault(out.len(), table) {
+        return Err(fault);
     }
-    let bytes = put_rows(table.table(), out);
-    Written { bytes, fault: 0 }
+    Ok(put_rows(table.table(), out))
 }

@@ -1,65 +1,71 @@
--- Laws of the tests that draw a number: tests one after the other, and what no number says.
-use Prim.Native.Nat.{ℕ, zero, suc}
-use mathlib.Core.Path.{◌≡◌, refl, sym, ◌∙◌}
-use mathlib.Core.Bool.{Bool, true, false}
+-- Laws of the tests that draw a number: tests one after the other, and what none says.
+use mathlib.Core.Path.{◌≡◌, refl, ap, sym, ◌∙◌}
+use mathlib.Core.Bool.{Bool, true, false, true≢false}
 use mathlib.Core.List.{List, [], ◌∷◌, ◌++◌}
-use native.Mathlib.Omega.{arith}
-use Rattle.lists.specs.Lists.{All}
-pub use Rattle.market.specs.Faults.{Numbered}
+use Rattle.std.specs.declared.option.Option.{Option}
+use Rattle.std.specs.declared.option.Option.TheVariants.{None, Some}
+use Rattle.std.specs.Prelude.{is_some}
 use Rattle.market.specs.Faults.{Test, ◌draws◌, drawn, unless_drawn, first_drawn}
-use Rattle.market.specs.Orders.{order_tests}
-use Rattle.market.specs.declared.order.Order.{Order}
+use Rattle.market.specs.declared.fault.Fault.{Fault}
 
--- ---- an answer by the number n
+-- ---- an answer where something is drawn, and where nothing is
 
-pub unless-some : {A : Type 0} (n : ℕ) (x y : A) → (n ≡ 0 → ⊥) → y ≡ unless_drawn n x y
-unless-some zero x y d = absurd (d refl)
-unless-some (suc n) x y d = refl
+pub unless-some : {A : Type 0} (d : Option Fault) (x y : A) → (d ≡ None → ⊥) → y ≡ unless_drawn d x y
+unless-some None x y n = absurd (n refl)
+unless-some (Some f) x y n = refl
 
-pub unless-none : {A : Type 0} (n : ℕ) (x y : A) → n ≡ 0 → x ≡ unless_drawn n x y
-unless-none zero x y z = refl
-unless-none (suc n) x y z = absurd (omega arith)
+pub unless-none : {A : Type 0} (d : Option Fault) (x y : A) → d ≡ None → x ≡ unless_drawn d x y
+unless-none d x y e = rw e refl
+
+-- no refusal is none
+pub some-drawn : (f : Fault) → ◌≡◌ {A = Option Fault} (Some f) None → ⊥
+some-drawn f e = true≢false (ap is_some e)
 
 -- ---- tests one after the other
 
--- the first list's number, or else the second's
-pub drawn-append : (a b : List Test) → All Numbered a → drawn (a ++ b) ≡ first_drawn (drawn a) (drawn b)
+-- the first list's refusal, or else the second's
+pub drawn-append : (a b : List Test) → drawn (a ++ b) ≡ first_drawn (drawn a) (drawn b)
 unfolding drawn
-drawn-append [] b p = refl
-drawn-append ((true draws zero) ∷ a) b p = absurd p.0
-drawn-append ((true draws (suc n)) ∷ a) b p = refl
-drawn-append ((false draws n) ∷ a) b p = drawn-append a b p.1
+drawn-append [] b = refl
+drawn-append ((true draws f) ∷ a) b = refl
+drawn-append ((false draws f) ∷ a) b = drawn-append a b
 
-pub numbered-append : (a b : List Test) → All Numbered a → All Numbered b → All Numbered (a ++ b)
-numbered-append [] b p q = q
-numbered-append (x ∷ a) b p q = (p.0, numbered-append a b p.1 q)
+-- ---- two refusals, one after the other
 
--- ---- an order's tests
+-- only where the first draws nothing does it matter what comes second
+pub first-same : (d a b : Option Fault) → (d ≡ None → a ≡ b) → first_drawn d a ≡ first_drawn d b
+first-same None a b e = e refl
+first-same (Some f) a b e = refl
 
-pub order-numbered : (o : Order) → All Numbered (order_tests o)
-order-numbered o = (tt, (tt, tt))
+-- what comes second, and what comes first
+pub first-none-is : (d a : Option Fault) → d ≡ None → a ≡ first_drawn d a
+first-none-is d a e = rw e refl
+
+pub first-some-is : (d a : Option Fault) → (d ≡ None → ⊥) → d ≡ first_drawn d a
+first-some-is None a n = absurd (n refl)
+first-some-is (Some f) a n = refl
 
 -- ---- where nothing was drawn
 
-pub first-none : (n m : ℕ) → first_drawn n m ≡ 0 → (n ≡ 0) × (m ≡ 0)
-first-none zero m e = (refl, e)
-first-none (suc n) m e = absurd (omega arith)
+pub first-none : (a b : Option Fault) → first_drawn a b ≡ None → (a ≡ None) × (b ≡ None)
+first-none None b e = (refl, e)
+first-none (Some f) b e = absurd (some-drawn f e)
 
--- neither list drew a number
-pub append-none : (a b : List Test) → All Numbered a → drawn (a ++ b) ≡ 0 → (drawn a ≡ 0) × (drawn b ≡ 0)
-append-none a b p e = first-none (drawn a) (drawn b) (sym (drawn-append a b p) ∙ e)
+-- neither list drew anything
+pub append-none : (a b : List Test) → drawn (a ++ b) ≡ None → (drawn a ≡ None) × (drawn b ≡ None)
+append-none a b e = first-none (drawn a) (drawn b) (sym (drawn-append a b) ∙ e)
 
 -- the first test did not hold, and the others drew nothing
-pub none-drawn : (b : Bool) (n : ℕ) (l : List Test) → drawn ((b draws (suc n)) ∷ l) ≡ 0 → (b ≡ false) × (drawn l ≡ 0)
+pub none-drawn : (b : Bool) (f : Fault) (l : List Test) → drawn ((b draws f) ∷ l) ≡ None → (b ≡ false) × (drawn l ≡ None)
 unfolding drawn
-none-drawn true n l e = absurd (omega arith)
-none-drawn false n l e = (refl, e)
+none-drawn true f l e = absurd (some-drawn f e)
+none-drawn false f l e = (refl, e)
 
 -- a first test that holds, and one that does not
-pub test-holds : (b : Bool) (n : ℕ) (l : List Test) → b ≡ true → drawn ((b draws n) ∷ l) ≡ n
+pub test-holds : (b : Bool) (f : Fault) (l : List Test) → b ≡ true → drawn ((b draws f) ∷ l) ≡ Some f
 unfolding drawn
-test-holds b n l e = rw e
+test-holds b f l e = rw e refl
 
-pub test-fails : (b : Bool) (n : ℕ) (l : List Test) → b ≡ false → drawn ((b draws n) ∷ l) ≡ drawn l
+pub test-fails : (b : Bool) (f : Fault) (l : List Test) → b ≡ false → drawn ((b draws f) ∷ l) ≡ drawn l
 unfolding drawn
-test-fails b n l e = rw e
+test-fails b f l e = rw e refl

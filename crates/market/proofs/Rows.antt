@@ -9,49 +9,45 @@ use lib.ListN.{length, take, drop, get_or, drop_of_length-le}
 use lib.Seq.{drop-cons, take-suc, length-take-le}
 use borrow.Author.Tests.{ltb-false}
 use Rattle.lists.specs.Lists.{All}
+use Rattle.std.specs.declared.option.Option.{Option}
+use Rattle.std.specs.declared.option.Option.TheVariants.{None, Some}
+use Rattle.market.specs.declared.fault.Fault.{Fault}
+use Rattle.market.specs.declared.fault.Fault.TheVariants.{UnknownSymbol, BadValue, NotAscending}
 use Rattle.market.specs.Faults.{Test, drawn, unless_drawn, first_drawn}
 pub use Rattle.market.specs.Rows.{Ascends, RowLaws}
 use Rattle.market.specs.Rows.{supplier_tests, rows_tests, good_rows}
-use Rattle.market.proofs.Faults.{Numbered, drawn-append, numbered-append, append-none, none-drawn, unless-some, unless-none}
+use Rattle.market.proofs.Faults.{drawn-append, append-none, none-drawn, unless-some, unless-none, first-same, first-none-is, first-some-is}
 
 -- ---- one row
 
-pub tests-ascend : (least symbol : ℕ) (sound : Bool) → drawn (supplier_tests least symbol sound) ≡ 0 → Ascends least symbol
+pub tests-ascend : (least symbol : ℕ) (sound : Bool) → drawn (supplier_tests least symbol sound) ≡ None → Ascends least symbol
 tests-ascend least symbol sound e =
-    let a = none-drawn _ 0 _ e in
-    let b = none-drawn _ 1 _ a.1 in
-    let c = none-drawn _ 2 _ b.1 in
+    let a = none-drawn _ UnknownSymbol _ e in
+    let b = none-drawn _ BadValue _ a.1 in
+    let c = none-drawn _ NotAscending _ b.1 in
     let x = ltb-false 255 symbol a.0 in
     record { low = ltb-false symbol least c.0; high = omega arith }
 
 -- tests that are the supplier's have them
 pub supplier-laws : {A : Type 0} (symbol_of : A → ℕ) (sound : A → Bool) → RowLaws (λ least r. supplier_tests least (symbol_of r) (sound r)) symbol_of
 supplier-laws symbol_of sound =
-    record {
-      numbered = λ least r. (tt, (tt, (tt, tt)));
-      ascends = λ least r. tests-ascend least (symbol_of r) (sound r);
-    }
+    record { ascends = λ least r. tests-ascend least (symbol_of r) (sound r) }
 
 -- only where no number is drawn does it matter what is given then
-pub unless-same : {A : Type 0} (n : ℕ) (x y z : A) → (n ≡ 0 → x ≡ y) → unless_drawn n x z ≡ unless_drawn n y z
-unless-same zero x y z e = e refl
-unless-same (suc n) x y z e = refl
+pub unless-same : {A : Type 0} (d : Option Fault) (x y z : A) → (d ≡ None → x ≡ y) → unless_drawn d x z ≡ unless_drawn d y z
+unless-same None x y z e = e refl
+unless-same (Some f) x y z e = refl
 
 -- ---- rows in order
 
 module _ {A : Type 0} (tests : ℕ → A → List Test) (symbol_of : A → ℕ) (laws : RowLaws tests symbol_of) where
-  abbrev drew : ℕ → List A → ℕ
+  abbrev drew : ℕ → List A → Option Fault
   drew least l = drawn (rows_tests tests symbol_of least l)
 
   abbrev good : ℕ → List A → List A
   good least l = good_rows tests symbol_of least l
 
-  pub rows-numbered : (least : ℕ) (l : List A) → All Numbered (rows_tests tests symbol_of least l)
-  rows-numbered least [] = tt
-  rows-numbered least (r ∷ l) =
-      numbered-append (tests least r) (rows_tests tests symbol_of (symbol_of r + 1) l) (laws.numbered least r) (rows-numbered (symbol_of r + 1) l)
-
-  none-drew : (least : ℕ) → drew least [] ≡ 0
+  none-drew : (least : ℕ) → drew least [] ≡ None
   unfolding drawn
   none-drew least = refl
 
@@ -61,26 +57,26 @@ module _ {A : Type 0} (tests : ℕ → A → List Test) (symbol_of : A → ℕ) 
 
   module _ (least : ℕ) (r : A) (l : List A) where
     rows-drew : drew least (r ∷ l) ≡ first_drawn (drawn (tests least r)) (drew (symbol_of r + 1) l)
-    rows-drew = drawn-append (tests least r) (rows_tests tests symbol_of (symbol_of r + 1) l) (laws.numbered least r)
+    rows-drew = drawn-append (tests least r) (rows_tests tests symbol_of (symbol_of r + 1) l)
 
     rows-good : good least (r ∷ l) ≡ unless_drawn (drawn (tests least r)) (r ∷ good (symbol_of r + 1) l) []
     unfolding good_rows
     rows-good = refl
 
     -- where the rows draw nothing, the first does not, nor do the others
-    pub rows_none : drew least (r ∷ l) ≡ 0 → (drawn (tests least r) ≡ 0) × (drew (symbol_of r + 1) l ≡ 0)
-    rows_none e = append-none (tests least r) (rows_tests tests symbol_of (symbol_of r + 1) l) (laws.numbered least r) e
+    pub rows_none : drew least (r ∷ l) ≡ None → (drawn (tests least r) ≡ None) × (drew (symbol_of r + 1) l ≡ None)
+    rows_none e = append-none (tests least r) (rows_tests tests symbol_of (symbol_of r + 1) l) e
 
   -- where no number is drawn all rows are good
-  pub good-all : (least : ℕ) (l : List A) → drew least l ≡ 0 → good least l ≡ l
+  pub good-all : (least : ℕ) (l : List A) → drew least l ≡ None → good least l ≡ l
   good-all least [] e = none-good least
   good-all least (r ∷ l) e =
       let d = rows_none least r l e in
       rows-good least r l ∙ sym (unless-none _ _ [] d.0) ∙ ap (λ (k : List A). r ∷ k) (good-all (symbol_of r + 1) l d.1)
 
-  few-by : (least n : ℕ) (r : A) (l : List A) → least ≤ 256 → (n ≡ 0 → least + suc (length l) ≤ 256) → least + length (unless_drawn n (r ∷ l) []) ≤ 256
-  few-by least zero r l h f = f refl
-  few-by least (suc n) r l h f = omega arith
+  few-by : (least : ℕ) (d : Option Fault) (r : A) (l : List A) → least ≤ 256 → (d ≡ None → least + suc (length l) ≤ 256) → least + length (unless_drawn d (r ∷ l) []) ≤ 256
+  few-by least None r l h g = g refl
+  few-by least (Some f) r l h g = omega arith
 
   -- at most 256 rows are good
   pub good-few : (least : ℕ) (l : List A) → least ≤ 256 → least + length (good least l) ≤ 256
@@ -94,10 +90,10 @@ module _ {A : Type 0} (tests : ℕ → A → List Test) (symbol_of : A → ℕ) 
 
   -- at most k rows ascend from a bound of 256 - k on, so the row after them draws a number
   module _ (least : ℕ) (r : A) (l m : List A) where
-    same-drew : (drawn (tests least r) ≡ 0 → drew (symbol_of r + 1) l ≡ drew (symbol_of r + 1) m) → drew least (r ∷ l) ≡ drew least (r ∷ m)
-    same-drew e = rows-drew least r l ∙ unless-same (drawn (tests least r)) _ _ (drawn (tests least r)) e ∙ sym (rows-drew least r m)
+    same-drew : (drawn (tests least r) ≡ None → drew (symbol_of r + 1) l ≡ drew (symbol_of r + 1) m) → drew least (r ∷ l) ≡ drew least (r ∷ m)
+    same-drew e = rows-drew least r l ∙ first-same (drawn (tests least r)) _ _ e ∙ sym (rows-drew least r m)
 
-    same_good : (drawn (tests least r) ≡ 0 → good (symbol_of r + 1) l ≡ good (symbol_of r + 1) m) → good least (r ∷ l) ≡ good least (r ∷ m)
+    same_good : (drawn (tests least r) ≡ None → good (symbol_of r + 1) l ≡ good (symbol_of r + 1) m) → good least (r ∷ l) ≡ good least (r ∷ m)
     same_good e =
         rows-good least r l
         ∙ unless-same (drawn (tests least r)) (r ∷ good (symbol_of r + 1) l) (r ∷ good (symbol_of r + 1) m) [] (λ z. ap (λ (k : List A). r ∷ k) (e z))
@@ -130,7 +126,7 @@ pub record RowsAt {A : Type 0} (tests : ℕ → A → List Test) (symbol_of : A 
   pub drew : drawn (rows_tests tests symbol_of least (drop i rows)) ≡ drawn (rows_tests tests symbol_of 0 rows)
 
 -- where it is left: the i rows so far are the good ones, and `fault` is what the rows draw
-pub record Left {A : Type 0} (tests : ℕ → A → List Test) (symbol_of : A → ℕ) (rows : List A) (fault i : ℕ) : Type 0 where
+pub record Left {A : Type 0} (tests : ℕ → A → List Test) (symbol_of : A → ℕ) (rows : List A) (fault : Option Fault) (i : ℕ) : Type 0 where
   pub good : take i rows ≡ good_rows tests symbol_of 0 rows
   pub count : i ≡ length (good_rows tests symbol_of 0 rows)
   pub fault-is : fault ≡ drawn (rows_tests tests symbol_of 0 rows)
@@ -140,17 +136,17 @@ rows_start tests symbol_of rows = record { within = omega arith; read = refl; dr
 
 module _ {A : Type 0} {tests : ℕ → A → List Test} {symbol_of : A → ℕ} (laws : RowLaws tests symbol_of) {rows : List A} {least i : ℕ} (v : RowsAt tests symbol_of rows least i) where
   -- the rest has no good row, and draws `fault`
-  left_at : (fault : ℕ) → good_rows tests symbol_of least (drop i rows) ≡ [] → drawn (rows_tests tests symbol_of least (drop i rows)) ≡ fault → Left tests symbol_of rows fault i
+  left_at : (fault : Option Fault) → good_rows tests symbol_of least (drop i rows) ≡ [] → drawn (rows_tests tests symbol_of least (drop i rows)) ≡ fault → Left tests symbol_of rows fault i
   left_at fault g d =
       let e = sym (append-nil (take i rows)) ∙ ap (λ (l : List A). take i rows ++ l) (sym g) ∙ v.read in
       let size : length (take i rows) ≡ i = length-take-le i rows (omega (arith, v.within)) in
       record { good = e; count = sym size ∙ ap length e; fault-is = sym d ∙ v.drew }
 
   -- no row is left
-  pub ended : length rows ≤ i → Left tests symbol_of rows 0 i
+  pub ended : length rows ≤ i → Left tests symbol_of rows None i
   ended h =
       let e = drop_of_length-le rows h in
-      left_at 0
+      left_at None
       (ap (good_rows tests symbol_of least) e ∙ none-good tests symbol_of laws least)
       (ap (λ (l : List A). drawn (rows_tests tests symbol_of least l)) e ∙ none-drew tests symbol_of laws least)
 
@@ -175,7 +171,7 @@ module _ {A : Type 0} {tests : ℕ → A → List Test} {symbol_of : A → ℕ} 
     taken_more : take (i + 1) rows ≡ take i rows ++ (row ∷ [])
     taken_more = ap (λ (j : ℕ). take j rows) (add-one i) ∙ take-suc rows i d h
 
-    pub goes_on : drawn (tests least row) ≡ 0 → RowsAt tests symbol_of rows (symbol_of row + 1) (i + 1)
+    pub goes_on : drawn (tests least row) ≡ None → RowsAt tests symbol_of rows (symbol_of row + 1) (i + 1)
     goes_on z =
         let next = good_rows tests symbol_of (symbol_of row + 1) later in
         record {
@@ -188,17 +184,17 @@ module _ {A : Type 0} {tests : ℕ → A → List Test} {symbol_of : A → ℕ} 
               ∙ v.read;
           drew =
               ap (λ (j : ℕ). drawn (rows_tests tests symbol_of (symbol_of row + 1) (drop j rows))) (add-one i)
-              ∙ unless-none _ _ _ z
+              ∙ first-none-is _ _ z
               ∙ sym drawn-of
               ∙ v.drew;
         }
 
-    pub stops : (drawn (tests least row) ≡ 0 → ⊥) → Left tests symbol_of rows (drawn (tests least row)) i
-    stops s = left_at (drawn (tests least row)) (good_of ∙ sym (unless-some _ _ [] s)) (drawn-of ∙ sym (unless-some _ _ _ s))
+    pub stops : (drawn (tests least row) ≡ None → ⊥) → Left tests symbol_of rows (drawn (tests least row)) i
+    stops s = left_at (drawn (tests least row)) (good_of ∙ sym (unless-some _ _ [] s)) (drawn-of ∙ sym (first-some-is _ _ s))
 
-below-by : {A : Type 0} (symbol_of : A → ℕ) (n : ℕ) (r : A) (l : List A) → (n ≡ 0 → symbol_of r < 256) → All (λ q. symbol_of q < 256) l → All (λ q. symbol_of q < 256) (unless_drawn n (r ∷ l) [])
-below-by symbol_of zero r l h a = (h refl, a)
-below-by symbol_of (suc n) r l h a = tt
+below-by : {A : Type 0} (symbol_of : A → ℕ) (d : Option Fault) (r : A) (l : List A) → (d ≡ None → symbol_of r < 256) → All (λ q. symbol_of q < 256) l → All (λ q. symbol_of q < 256) (unless_drawn d (r ∷ l) [])
+below-by symbol_of None r l h a = (h refl, a)
+below-by symbol_of (Some f) r l h a = tt
 
 -- the good rows' symbols are at most 255
 pub good-below : {A : Type 0} (tests : ℕ → A → List Test) (symbol_of : A → ℕ) → RowLaws tests symbol_of → (least : ℕ) (l : List A) → All (λ r. symbol_of r < 256) (good_rows tests symbol_of least l)

@@ -10,15 +10,15 @@ use lib.Dec.{eqb}
 use lib.ListN.{length, take, get_or, replicate, length-set, length-replicate}
 use lib.Seq.{get_or-set_same, get_or-set_other}
 use borrow.Author.Tests.{ne_eqb, eqb-true, eqb-false}
-use Rattle.lists.specs.Lists.{given, All}
+use Rattle.lists.specs.Lists.{given}
 use Rattle.market.specs.Faults.{drawn}
+use Rattle.market.specs.declared.fault.Fault.{Fault}
 use Rattle.market.specs.Quotes.{is_price, row_tests, table_tests, row_for, empty_table, put_row, faulted, table_of, row_at}
 use Rattle.market.specs.Rows.{good_rows}
 use Rattle.market.specs.declared.quote.Quote.{Quote}
 use Rattle.market.specs.declared.table.Table.{Table}
-use Rattle.market.proofs.Faults.{Numbered}
 use Rattle.market.proofs.Rows as Rows
-use Rattle.market.proofs.Rows.{Ascends, RowLaws, supplier-laws, rows-numbered, good-all, most-drew, most-good}
+use Rattle.market.proofs.Rows.{Ascends, RowLaws, supplier-laws, good-all, most-drew, most-good}
 
 -- ---- rows of quotes
 
@@ -26,14 +26,11 @@ pub quote-laws : RowLaws row_tests (λ (q : Quote). q.symbol)
 quote-laws = supplier-laws (λ (q : Quote). q.symbol) (λ q. is_price q.bid && is_price q.ask)
 
 -- a row that drew nothing ascends, and its symbol is at most 255
-pub row-ascends : (least : ℕ) (q : Quote) → drawn (row_tests least q) ≡ 0 → Ascends least q.symbol
+pub row-ascends : (least : ℕ) (q : Quote) → drawn (row_tests least q) ≡ None → Ascends least q.symbol
 row-ascends least q e = quote-laws.ascends least q e
 
-pub table-numbered : (least : ℕ) (l : List Quote) → All Numbered (table_tests least l)
-table-numbered least l = rows-numbered row_tests (λ q. q.symbol) quote-laws least l
-
 -- where the rows draw nothing, the first does not, nor do the others
-pub rows_none : (least : ℕ) (q : Quote) (l : List Quote) → drawn (table_tests least (q ∷ l)) ≡ 0 → (drawn (row_tests least q) ≡ 0) × (drawn (table_tests (q.symbol + 1) l) ≡ 0)
+pub rows_none : (least : ℕ) (q : Quote) (l : List Quote) → drawn (table_tests least (q ∷ l)) ≡ None → (drawn (row_tests least q) ≡ None) × (drawn (table_tests (q.symbol + 1) l) ≡ None)
 rows_none least q l e = Rows.rows_none row_tests (λ q. q.symbol) quote-laws least q l e
 
 -- ---- the number that the rows drew
@@ -71,14 +68,14 @@ table-rows-length l = all-long empty_table (good_rows row_tests (λ q. q.symbol)
 pub table-most : (l : List Quote) → table_of (take 257 l) ≡ table_of l
 unfolding table_of
 table-most l =
-    ap₂ (λ (k : List Quote) (n : ℕ). faulted (foldl put_row empty_table k) n)
+    ap₂ (λ (k : List Quote) (n : Option Fault). faulted (foldl put_row empty_table k) n)
     (most-good row_tests (λ q. q.symbol) quote-laws l)
     (most-drew row_tests (λ q. q.symbol) quote-laws l)
 
 -- ---- the row for a symbol
 
 -- rows that draw nothing have no symbol below the first's bound
-pub row_below : (least : ℕ) (l : List Quote) (n : ℕ) → drawn (table_tests least l) ≡ 0 → n < least → row_for l n ≡ None
+pub row_below : (least : ℕ) (l : List Quote) (n : ℕ) → drawn (table_tests least l) ≡ None → n < least → row_for l n ≡ None
 row_below least [] n e h = refl
 row_below least (q ∷ l) n e h =
     let d = rows_none least q l e in
@@ -98,13 +95,13 @@ module _ (t : Table) (q : Quote) (n : ℕ) where
   put_other d = get_or-set_other t.rows q.symbol n (Some q) None (λ x. d (sym x))
 
   -- one row more
-  row_by : (l : List Quote) → Long t → q.symbol < 256 → drawn (table_tests (q.symbol + 1) l) ≡ 0 → (b : Bool) → eqb q.symbol n ≡ b → given (row_for l n) (row_at (put_row t q) n) Some ≡ given (cond b (Some q) (row_for l n)) (row_at t n) Some
+  row_by : (l : List Quote) → Long t → q.symbol < 256 → drawn (table_tests (q.symbol + 1) l) ≡ None → (b : Bool) → eqb q.symbol n ≡ b → given (row_for l n) (row_at (put_row t q) n) Some ≡ given (cond b (Some q) (row_for l n)) (row_at t n) Some
   row_by l s h d true e =
       let same = eqb-true q.symbol n e in
       rw (row_below (q.symbol + 1) l n d (omega arith)) (put_same s h same)
   row_by l s h d false e = ap (λ (o : Option Quote). given (row_for l n) o Some) (put_other (eqb-false q.symbol n e))
 
-all-rows : (least : ℕ) (t : Table) (l : List Quote) (n : ℕ) → Long t → drawn (table_tests least l) ≡ 0 → row_at (foldl put_row t l) n ≡ given (row_for l n) (row_at t n) Some
+all-rows : (least : ℕ) (t : Table) (l : List Quote) (n : ℕ) → Long t → drawn (table_tests least l) ≡ None → row_at (foldl put_row t l) n ≡ given (row_for l n) (row_at t n) Some
 all-rows least t [] n s e = refl
 all-rows least t (q ∷ l) n s e =
     let d = rows_none least q l e in
@@ -126,7 +123,7 @@ given-none None = refl
 given-none (Some q) = refl
 
 -- a table whose rows drew nothing has the row for each symbol
-pub table-row : (l : List Quote) → drawn (table_tests 0 l) ≡ 0 → (n : ℕ) → row_at (table_of l) n ≡ row_for l n
+pub table-row : (l : List Quote) → drawn (table_tests 0 l) ≡ None → (n : ℕ) → row_at (table_of l) n ≡ row_for l n
 unfolding table_of
 table-row l e n =
     ap (λ (k : List Quote). row_at (foldl put_row empty_table k) n) (good-all row_tests (λ q. q.symbol) quote-laws 0 l e)

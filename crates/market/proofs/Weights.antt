@@ -1,6 +1,7 @@
 -- Rows of weights: what is read of them, and that 257 rows are enough.
 use mathlib.Core.Path.{◌≡◌, refl, ◌∙◌}
 use mathlib.Core.List.{List}
+use Rattle.std.specs.declared.option.Option.TheVariants.{None}
 use lib.Ieee.{nan}
 use lib.Ieee.Scale.{finite}
 use Rattle.lists.proofs.Over.{take-over}
@@ -27,5 +28,5 @@ unfolding weights_of
 weights-good l = take-over (good_rows weight_tests (λ w. w.symbol) 0 l) _ _ refl
 
 -- where no number is drawn all rows count
-pub weights-all : (l : List Weight) → drawn (weight_rows 0 l) ≡ 0 → weighed (weights_of l) ≡ l
+pub weights-all : (l : List Weight) → drawn (weight_rows 0 l) ≡ None → weighed (weights_of l) ≡ l
 weights-all l e = weights-good l ∙ good-all weight_tests (λ w. w.symbol) weight-laws 0 l e

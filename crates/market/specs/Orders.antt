@@ -1,10 +1,12 @@
 -- Orders: document 01, section 2, and the sender's 1 and 2. Definitions only.
-use Rattle.std.specs.Prelude.{ℕ, Bool, true, false, not, ◌||◌, List, [], ◌∷◌, ltb, Float, None, Some}
+use Rattle.std.specs.Prelude.{ℕ, Bool, true, false, not, ◌||◌, List, [], ◌∷◌, ltb, Float, Option, None, Some}
 use Rattle.std.specs.Float.{binary64}
 use Rattle.std.specs.Float.Ieee.{of_bits}
 use Rattle.std.specs.Float.Ieee.Scale.{finite}
 use Rattle.lists.specs.Lists.{given}
 use Rattle.market.specs.Faults.{Test, ◌draws◌}
+use Rattle.market.specs.declared.fault.Fault.{Fault}
+use Rattle.market.specs.declared.fault.Fault.TheVariants.{UnknownSymbol, BadValue}
 use Rattle.market.specs.declared.order.OrderType.{OrderType}
 use Rattle.market.specs.declared.order.OrderType.TheVariants.{MarketSell, MarketBuy, LimitSell, LimitBuy, StopSell, StopBuy}
 use Rattle.market.specs.declared.order.Order.{Order}
@@ -26,9 +28,9 @@ blank_order = market_order MarketSell 0 zero64
 abbrev pub priced_order : OrderType → ℕ → Float → Float → Order
 priced_order k symbol shares price = record { kind = k; symbol = symbol; shares = shares; price = Some price }
 
--- an order's event: the order with taken (0) or its number
-abbrev pub event_of : Order → ℕ → OrderEvent
-event_of o n = record { order = o; fault = n }
+-- an order's event: the order with taken (None) or its number
+abbrev pub event_of : Order → Option Fault → OrderEvent
+event_of o f = record { order = o; fault = f }
 
 -- the kinds that sell
 abbrev pub is_sell : OrderType → Bool
@@ -51,5 +53,5 @@ is_market StopBuy = false
 -- sender: 1 symbol above 255; 2 shares, or the price where it has one, not finite
 abbrev pub order_tests : Order → List Test
 order_tests o =
-    (ltb 255 o.symbol draws 1) ∷
-    ((not (finite o.shares) || given o.price false (λ price. not (finite price))) draws 2) ∷ []
+    (ltb 255 o.symbol draws UnknownSymbol) ∷
+    ((not (finite o.shares) || given o.price false (λ price. not (finite price))) draws BadValue) ∷ []

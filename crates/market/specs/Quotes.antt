@@ -7,6 +7,7 @@ use Rattle.std.specs.Float.Ieee.{lt}
 use Rattle.std.specs.Float.Ieee.Scale.{finite}
 use Rattle.lists.specs.Lists.{over}
 use Rattle.market.specs.Faults.{Test, drawn}
+use Rattle.market.specs.declared.fault.Fault.{Fault}
 use Rattle.market.specs.Orders.{zero64}
 use Rattle.market.specs.Rows.{supplier_tests, rows_tests, good_rows}
 use Rattle.market.specs.declared.quote.Quote.{Quote}
@@ -37,21 +38,21 @@ abbrev pub row_for : List Quote → ℕ → Option Quote
 row_for [] n = None
 row_for (q ∷ l) n = cond (eqb q.symbol n) (Some q) (row_for l n)
 
--- rows in the first places of an array of 257, how many they are, and a number
-abbrev pub listing : List Quote → ℕ → QuoteRows
-listing l fault = record { rows = over l (replicate 257 blank_quote); count = length l; fault = fault }
+-- rows in the first places of an array of 257, and how many they are
+abbrev pub listing : List Quote → QuoteRows
+listing l = record { rows = over l (replicate 257 blank_quote); count = length l }
 
 -- ---- the table by symbol
 
 unfoldable pub empty_table : Table
-empty_table = record { rows = replicate 256 None; fault = 0 }
+empty_table = record { rows = replicate 256 None; fault = None }
 
 -- a row put at its symbol's place
 abbrev pub put_row : Table → Quote → Table
 put_row t q = record { rows = set t.rows q.symbol (Some q); fault = t.fault }
 
-abbrev pub faulted : Table → ℕ → Table
-faulted t n = record { rows = t.rows; fault = n }
+abbrev pub faulted : Table → Option Fault → Table
+faulted t f = record { rows = t.rows; fault = f }
 
 -- the rows are put in up to the first that draws a number, which the table keeps
 unfoldable pub table_of : List Quote → Table

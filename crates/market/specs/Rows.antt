@@ -1,12 +1,12 @@
 -- Rows that ascend by symbol, of quotes or of weights: document 01, section 2, and the supplier's 1, 2 and 3. Definitions only.
-use Rattle.std.specs.Prelude.{ℕ, ◌≡◌, ◌+◌, ◌<◌, ◌≤◌, Bool, not, List, [], ◌∷◌, ◌++◌, ltb}
-use Rattle.lists.specs.Lists.{All}
-use Rattle.market.specs.Faults.{Test, ◌draws◌, drawn, unless_drawn, Numbered}
+use Rattle.std.specs.Prelude.{ℕ, ◌≡◌, ◌+◌, ◌<◌, ◌≤◌, Bool, not, List, [], ◌∷◌, ◌++◌, ltb, None}
+use Rattle.market.specs.Faults.{Test, ◌draws◌, drawn, unless_drawn}
+use Rattle.market.specs.declared.fault.Fault.TheVariants.{UnknownSymbol, BadValue, NotAscending}
 
 -- per row: 1 symbol above 255; 2 values that are not as they must be; 3 row not ascending.
 -- `least` is the least symbol that ascends: 0 for the first row, then one more than the symbol of the row before
 abbrev pub supplier_tests : ℕ → ℕ → Bool → List Test
-supplier_tests least symbol sound = (ltb 255 symbol draws 1) ∷ (not sound draws 2) ∷ (ltb symbol least draws 3) ∷ []
+supplier_tests least symbol sound = (ltb 255 symbol draws UnknownSymbol) ∷ (not sound draws BadValue) ∷ (ltb symbol least draws NotAscending) ∷ []
 
 -- the tests of rows in order, where `tests` are those of one row
 abbrev pub rows_tests : {A : Type 0} → (ℕ → A → List Test) → (A → ℕ) → ℕ → List A → List Test
@@ -23,7 +23,6 @@ pub record Ascends (least symbol : ℕ) : Type 0 where
   pub low : least ≤ symbol
   pub high : symbol < 256
 
--- what reading rows asks of a row's tests: none draws 0, and a row that draws nothing ascends
+-- what reading rows asks of a row's tests: a row that draws nothing ascends
 pub record RowLaws {A : Type 0} (tests : ℕ → A → List Test) (symbol_of : A → ℕ) : Type 0 where
-  pub numbered : (least : ℕ) (r : A) → All Numbered (tests least r)
-  pub ascends : (least : ℕ) (r : A) → drawn (tests least r) ≡ 0 → Ascends least (symbol_of r)
+  pub ascends : (least : ℕ) (r : A) → drawn (tests least r) ≡ None → Ascends least (symbol_of r)

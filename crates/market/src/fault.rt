@@ -1,17 +1,96 @@
-// The number that a call draws, or 0: what is done where none is drawn.
+// The refusals of document 01 and 02 by name, and the number of each.
 ghost use Rattle.std.specs.Prelude.{◌≡◌};
-ghost use Rattle.market.specs.Faults.{unless_drawn, first_drawn};
+ghost use Rattle.market.specs.Faults.{unless_drawn, ok_unless, number_of};
 
-// None of `n` where a number is drawn.
-pub fn count_unless(fault: u32, n: usize) -> usize
-    ensures { result ≡ unless_drawn fault n 0 }
-{
-    if fault != 0 { 0 } else { n }
+use std::fmt;
+
+// What a call draws. A call that draws nothing answers `None` in its place, or `Ok`.
+#[derive(Clone, Copy, PartialEq, Eq)]
+pub enum Fault {
+    UnknownSymbol,
+    BadValue,
+    NotAscending,
+    BrokerFailed,
+    Unquoted,
+    NotMarket,
+    ExceedsCash,
+    ExceedsHolding,
+    ZeroShares,
+    LogFull,
+    BookFull,
+    WithdrawFailed,
+    NothingToWeigh,
+    TooManyCosts,
+    ListTooShort,
+    Unsound,
+    LotOutOfRange,
+    BeyondLot,
+    MalformedLine,
+    TextTooLong,
+    AlikeRows,
+    TooManyRows,
 }
 
-// The first number where it is drawn, else the second.
-pub fn first(a: u32, b: u32) -> u32
-    ensures { result ≡ first_drawn a b }
+impl Fault {
+    // The paper's number.
+    pub fn number(self) -> u32
+        ensures { result ≡ number_of self }
+    {
+        match self {
+            Fault::UnknownSymbol => 1,
+            Fault::BadValue => 2,
+            Fault::NotAscending => 3,
+            Fault::BrokerFailed => 4,
+            Fault::Unquoted => 5,
+            Fault::NotMarket => 6,
+            Fault::ExceedsCash => 7,
+            Fault::ExceedsHolding => 8,
+            Fault::ZeroShares => 9,
+            Fault::LogFull => 10,
+            Fault::BookFull => 11,
+            Fault::WithdrawFailed => 12,
+            Fault::NothingToWeigh => 13,
+            Fault::TooManyCosts => 14,
+            Fault::ListTooShort => 15,
+            Fault::Unsound => 16,
+            Fault::LotOutOfRange => 17,
+            Fault::BeyondLot => 18,
+            Fault::MalformedLine => 19,
+            Fault::TextTooLong => 20,
+            Fault::AlikeRows => 21,
+            Fault::TooManyRows => 22,
+        }
+    }
+}
+
+impl fmt::Display for Fault {
+    fn fmt<W: fmt::Write>(&self, f: &mut fmt::Formatter<W>) -> fmt::Result {
+        let number = self.number();
+        write!(f, "{number}")
+    }
+}
+
+// The state after a call, or the one that is asked for, and what the call drew: a call that is refused
+// answers the state too, so this is no `Result`.
+#[derive(Clone, Copy)]
+pub struct After<S> {
+    pub state: S,
+    pub fault: Option<Fault>,
+}
+
+// What is answered: `value`, or what was drawn.
+pub fn ok_unless<T: Copy>(fault: Option<Fault>, value: T) -> Result<T, Fault>
+    ensures { result ≡ ok_unless fault value }
 {
-    if a != 0 { a } else { b }
+    match fault {
+        None => Ok(value),
+        Some(fault) => Err(fault),
+    }
+}
+
+// `value`, or `none` where something was drawn.
+pub fn unless_drawn<T: Copy>(fault: Option<Fault>, value: T, none: T) -> T
+    ensures { result ≡ unless_drawn fault value none }
+{
+    if fault.is_none() { value } else { none }
 }

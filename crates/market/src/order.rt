@@ -4,6 +4,8 @@ ghost use Rattle.market.specs.declared.order.OrderType.TheVariants.{MarketSell, 
 ghost use Rattle.market.specs.Faults.{drawn};
 ghost use Rattle.market.specs.Orders.{market_order, blank_order, priced_order, is_sell, is_market, order_tests};
 
+use crate::fault::Fault;
+
 #[derive(Clone, Copy)]
 pub enum OrderType {
     MarketSell,
@@ -22,13 +24,14 @@ pub struct Order {
     pub price: Option<f64>,
 }
 
-// The order, with 0 where it was taken or the number that it drew.
+// The order, with the number that it drew, or none where it was taken.
 #[derive(Clone, Copy)]
 pub struct OrderEvent {
     pub order: Order,
-    pub fault: u32,
+    pub fault: Option<Fault>,
 }
 
+// The Rust's constructors, with its parameters in their order.
 impl Order {
     fn market(kind: OrderType, symbol: u32, shares: f64) -> Order
         ensures { result ≡ market_order kind symbol shares }
@@ -110,20 +113,20 @@ impl Order {
         matches!(self.kind, OrderType::MarketSell | OrderType::MarketBuy)
     }
 
-    // 1 and 2 of an order, or 0.
+    // 1 and 2 of an order.
     #[tactic(auto, unfolding(crate::specs::Faults::drawn))]
-    pub fn fault(self) -> u32
+    pub fn fault(self) -> Option<Fault>
         ensures { result ≡ drawn (order_tests self) }
     {
         if self.symbol > 255 {
-            return 1;
+            return Some(Fault::UnknownSymbol);
         }
         if !floats::finite(self.shares) {
-            return 2;
+            return Some(Fault::BadValue);
         }
         match self.price {
-            Some(price) if !floats::finite(price) => 2,
-            _ => 0,
+            Some(price) if !floats::finite(price) => Some(Fault::BadValue),
+            _ => None,
         }
     }
 }

@@ -4,7 +4,7 @@ ghost use Rattle.market.specs.Quotes.{blank_quote, is_price};
 
 use crate::row::Row;
 
-#[derive(Clone, Copy)]
+#[derive(Clone, Copy, PartialEq)]
 pub struct Quote {
     pub symbol: u32,
     pub bid: f64,

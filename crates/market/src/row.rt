@@ -4,6 +4,8 @@ ghost use Rattle.market.specs.Faults.{drawn};
 ghost use Rattle.market.specs.Rows.{supplier_tests};
 ghost use Rattle.market.specs.Reading.{ReadsRows};
 
+use crate::fault::Fault;
+
 // A row of a symbol, and whether its values are as they must be.
 pub trait Row {
     ghost symbol_of: { Self → ℕ };
@@ -16,26 +18,30 @@ pub trait Row {
     fn is_sound(&self) -> bool
         ensures { result ≡ sound self.now };
 
-    // 1, 2 and 3 of the row, or 0; `least` is the least symbol that ascends.
+    // 1, 2 and 3 of the row; `least` is the least symbol that ascends.
     #[tactic(auto, unfolding(crate::specs::Faults::drawn))]
-    fn fault(&self, least: u32) -> u32
+    fn fault(&self, least: u32) -> Option<Fault>
         ensures { result ≡ drawn (supplier_tests least (symbol_of self.now) (sound self.now)) }
     {
         if self.symbol() > 255 {
-            return 1;
+            return Some(Fault::UnknownSymbol);
         }
         if !self.is_sound() {
-            return 2;
+            return Some(Fault::BadValue);
         }
-        if self.symbol() < least { 3 } else { 0 }
+        if self.symbol() < least {
+            return Some(Fault::NotAscending);
+        }
+        None
     }
 }
 
-// How many rows stand before the first that draws a number, and that number, or 0.
+// How many rows stand before the first that draws a number, and that number. Both are told: the rows
+// before a bad one are kept, and so no `Result`.
 #[derive(Clone, Copy)]
 pub struct RowsRead {
     pub count: usize,
-    pub fault: u32,
+    pub fault: Option<Fault>,
 }
 
 impl RowsRead {
@@ -44,15 +50,17 @@ impl RowsRead {
     {
         let mut least: u32 = 0;
         for (i, row) in rows.iter().enumerate() {
-            let fault = row.fault(least);
-            if fault != 0 {
-                return RowsRead { count: i, fault };
+            if let Some(fault) = row.fault(least) {
+                return RowsRead {
+                    count: i,
+                    fault: Some(fault),
+                };
             }
             least = row.symbol() + 1;
         }
         RowsRead {
             count: rows.len(),
-            fault: 0,
+            fault: None,
         }
     }
 }

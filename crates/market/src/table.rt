@@ -4,24 +4,23 @@ ghost use mathlib.Core.List.{foldl};
 ghost use Rattle.lists.specs.Lists.{All};
 ghost use Rattle.market.specs.Quotes.{empty_table, put_row, row_at, table_of};
 
+use crate::fault::Fault;
 use crate::quote::Quote;
 use crate::row::RowsRead;
 
 // The row of a symbol stands at the symbol's place. `fault` is the number that the first bad row
-// drew, or 0.
+// drew; the rows before it are read.
 #[derive(Clone, Copy)]
 pub struct Table {
     pub rows: [Option<Quote>; 256],
-    pub fault: u32,
+    pub fault: Option<Fault>,
 }
 
-// The first `count` rows, in fixed memory, and the number drawn, or 0. There is a place more than a
-// table has rows.
+// The first `count` rows, in fixed memory. There is a place more than a table has rows.
 #[derive(Clone, Copy)]
 pub struct QuoteRows {
     pub rows: [Quote; 257],
     pub count: usize,
-    pub fault: u32,
 }
 
 // A table that was read off rows. Its field is private, so nothing else makes one, and the calls that
@@ -38,7 +37,7 @@ impl Table {
     {
         Table {
             rows: [None; 256],
-            fault: 0,
+            fault: None,
         }
     }
 
@@ -83,8 +82,8 @@ impl ReadTable {
         self.table
     }
 
-    // The number that its rows drew, or 0.
-    pub fn fault(self) -> u32
+    // The number that its rows drew.
+    pub fn fault(self) -> Option<Fault>
         ensures { result ≡ self.table.fault }
     {
         self.table.fault

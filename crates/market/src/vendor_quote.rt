@@ -3,6 +3,7 @@ ghost use Rattle.std.specs.Prelude.{◌≡◌};
 ghost use Rattle.market.specs.Faults.{drawn};
 ghost use Rattle.market.specs.VendorQuotes.{blank_vendor, quote_of, vendor_row_tests};
 
+use crate::fault::Fault;
 use crate::quote::Quote;
 use crate::row::Row;
 
@@ -41,8 +42,8 @@ impl VendorQuote {
         }
     }
 
-    // 1 and 2 of a row, or 0. No symbol is below 0, so 3 is not drawn.
-    pub fn fault(self) -> u32
+    // 1 and 2 of a row. No symbol is below 0, so 3 is not drawn.
+    pub fn fault(self) -> Option<Fault>
         ensures { result ≡ drawn (vendor_row_tests self) }
     {
         self.quote().fault(0)

@@ -4,6 +4,7 @@ ghost use Rattle.lists.specs.Lists.{over};
 ghost use Rattle.market.specs.Weights.{blank_weight, weights_of, weighed};
 ghost use Rattle.std.specs.Float.Ieee.Scale.{finite};
 
+use crate::fault::Fault;
 use crate::row::{Row, RowsRead};
 
 #[derive(Clone, Copy)]
@@ -13,13 +14,13 @@ pub struct Weight {
 }
 
 // Weights by ascending symbol: the first `count` rows; `fault` is the number that the first bad row
-// drew, or 0. Its fields are private, so only reading rows makes one. Like a table they stand in fixed
+// drew. Its fields are private, so only reading rows makes one. Like a table they stand in fixed
 // memory.
 #[derive(Clone, Copy)]
 pub struct Weights {
     rows: [Weight; 256],
     count: usize,
-    fault: u32,
+    fault: Option<Fault>,
 }
 
 impl Row for Weight {
@@ -84,8 +85,8 @@ impl Weights {
         &self.rows[..count]
     }
 
-    // The number that the rows drew, or 0.
-    pub fn fault(self) -> u32
+    // The number that the rows drew.
+    pub fn fault(self) -> Option<Fault>
         ensures { result ≡ self.fault }
     {
         self.fault

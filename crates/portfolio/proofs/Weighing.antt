@@ -1,4 +1,4 @@
--- The walk over weights, and the plan that it comes to. Assumes nothing.
+-- The walk over weights. Assumes nothing.
 use Prim.Native.Nat.{ℕ, suc, ◌+◌, ◌≤◌, ◌<◌}
 use mathlib.Core.Path.{◌≡◌, refl, ap, ap₂, sym, ◌∙◌}
 use mathlib.Core.Bool.{Bool, true, false}
@@ -10,20 +10,18 @@ use native.Mathlib.Numerals.{add-one}
 use lib.Ieee.{Float}
 use lib.ListN.{length, drop, get_or, drop_of_length-le}
 use lib.Seq.{drop-cons}
-use Rattle.market.specs.Faults.{drawn}
 use Rattle.market.specs.declared.order.Order.{Order}
 use Rattle.market.specs.declared.weight.Weight.{Weight}
 use Rattle.market.proofs.Weights.{no_weight}
-use Rattle.orders.specs.Orders.{sells_first}
 use Rattle.costs.specs.Kept.{costs_of}
 use Rattle.market.specs.Quotes.{row_at}
 use Rattle.market.specs.declared.quote.Quote.{Quote}
 use Rattle.rules.specs.Amounts.{is_zero, minus, times}
 use Rattle.rules.specs.Money.{Money, or_zero}
-use Rattle.rules.specs.Values.{value_of, liquidation_value}
+use Rattle.rules.specs.Values.{value_of}
 use Rattle.portfolio.specs.State.{money_of}
 use Rattle.portfolio.specs.declared.state.Portfolio.{Portfolio}
-use Rattle.rules.specs.Weights.{orders_at, row_orders, then_rows, difference, wanted, plan_of}
+use Rattle.rules.specs.Weights.{orders_at, row_orders, then_rows, difference, wanted}
 use Rattle.portfolio.specs.Lists.{no_orders, listed, with_order}
 use Rattle.portfolio.specs.declared.list.OrderList.{OrderList}
 use Rattle.portfolio.proofs.Listing.{Wide, none-wide, none-listed, none-count, with-listed, with-wide, with-few}
@@ -139,21 +137,3 @@ module _ (p : Portfolio) (v : Float) (w : Weight) (x : Float) where
   pub row-read : (q : Option Quote) → x ≡ or_zero (value_of (money_of p) w.symbol) → q ≡ row_at p.latest w.symbol →
       orders_at p.lot (costs_of p.costs) w.symbol (minus (times v w.weight) x) q ≡ orders_of (money_of p) v w
   row-read q e f = ap₂ (λ (y : Float) (r : Option Quote). orders_at p.lot (costs_of p.costs) w.symbol (minus (times v w.weight) y) r) e f
-
--- ---- the plan
-
-module _ (m : Money) (l : List Weight) (v : Float) (e : v ≡ liquidation_value m) where
-  -- there is no value to weigh
-  pub plan-worthless : is_zero v ≡ true → (n : ℕ) (k : List Order) → n ≡ 13 → k ≡ [] → record { fault = n; orders = k } ≡ plan_of m l
-  unfolding drawn plan_of
-  plan-worthless t n k en ek = grind (arith, e, t, en, ek)
-
-  module _ (f : is_zero v ≡ false) (walk : Option (List Order)) (g : walk ≡ wanted m v l) where
-    -- the lot does not round a quotient
-    pub plan-beyond : walk ≡ None → (n : ℕ) (k : List Order) → n ≡ 18 → k ≡ [] → record { fault = n; orders = k } ≡ plan_of m l
-    unfolding drawn plan_of
-    plan-beyond w n k en ek = grind (arith, e, f, g, w, en, ek)
-
-    pub plan-lists : (o : List Order) → walk ≡ Some o → (k : List Order) → k ≡ sells_first o → record { fault = 0; orders = k } ≡ plan_of m l
-    unfolding drawn plan_of
-    plan-lists o w k ek = grind (arith, e, f, g, w, ek)

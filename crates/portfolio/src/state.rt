@@ -6,12 +6,15 @@ ghost use Rattle.portfolio.specs.State.{no_funds, held_at};
 use costs::TradeCosts;
 use market::table::Table;
 
-// A symbol is held where its holding is not 0.0. A pending sum of zero stays present.
+// A symbol is held where its holding is not 0.0. A pending sum of zero stays present. The two arrays
+// stand side by side in fixed memory, since the engine allocates nothing: each is one of the Rust's
+// maps by symbol, with a place for every symbol.
 #[derive(Clone, Copy)]
 pub struct Funds {
     pub holding: [f64; 256],
     pub pending: [Option<f64>; 256],
     pub cash: f64,
+    // A flag of its own: it is the Rust's `BrokerState`, Ready or Failed, which has no value beside it.
     pub failed: bool,
 }
 

@@ -8,22 +8,16 @@ ghost use Rattle.portfolio.specs.State.{money_of};
 ghost use Rattle.portfolio.specs.Lists.{listed, listed_in, onto_of};
 ghost use Rattle.lists.specs.Lists.{holds};
 ghost use Rattle.market.specs.Weights.{weighed};
-ghost use Rattle.portfolio.specs.Weigh.{row_in, refused, plan_in};
+ghost use Rattle.portfolio.specs.Weigh.{row_in, plan_in};
 
 use crate::list::OrderList;
 use crate::state::Portfolio;
 use costs::TradeCosts;
 use floats::lot;
+use market::fault::Fault;
 use market::order::Order;
 use market::quote::Quote;
 use market::weight::{Weight, Weights};
-
-// The orders of the weights, and the number drawn, or 0; where one is drawn, no order is listed.
-#[derive(Clone, Copy)]
-pub struct Plan {
-    pub list: OrderList,
-    pub fault: u32,
-}
 
 // The shares that a difference comes to at a quote, net of costs; none where the lot does not round
 // the quotient.
@@ -117,33 +111,18 @@ fn sells_first(list: &OrderList) -> OrderList
     side_onto(list, false, sales)
 }
 
-impl Plan {
-    // No orders, and the number drawn.
-    fn refused(fault: u32) -> Plan
-        ensures { result ≡ refused fault }
-    {
-        Plan {
-            list: OrderList::none(),
-            fault,
-        }
-    }
-}
-
 impl Portfolio {
-    // The walk. Where a number is drawn no order is listed, also none of the rows before.
-    pub fn diff_against_target_weights(&self, weights: &Weights) -> Plan
+    // The walk: the orders of the weights, or 13 or 18. Where a number is drawn no order is listed,
+    // also none of the rows before.
+    #[tactic(auto, unfolding(rules::specs::Weights::plan_of, market::specs::Faults::drawn))]
+    pub fn diff_against_target_weights(&self, weights: &Weights) -> Result<OrderList, Fault>
         ensures { plan_in result ≡ plan_of (money_of self.now) (weighed weights.now) }
     {
         let total = self.get_liquidation_value();
         if total == 0.0 {
-            return Plan::refused(13);
+            return Err(Fault::NothingToWeigh);
         }
-        let Some(list) = wanted_orders(self, total, weights.rows()) else {
-            return Plan::refused(18);
-        };
-        Plan {
-            list: sells_first(&list),
-            fault: 0,
-        }
+        let list = wanted_orders(self, total, weights.rows()).ok_or(Fault::BeyondLot)?;
+        Ok(sells_first(&list))
     }
 }

@@ -1,21 +1,22 @@
 // The answers of the reader and the writer, printed with what the lists hold.
+use market::fault::Fault;
 use market::quote::Quote;
 use std::io;
 use vendor::on_arrays::{read_on, write_on};
 
 // One form for both: the number, the count that is answered, and what a list holds.
-fn print_line(rt: &impl Print, number: u32, count: usize, held: usize) -> io::Result<()> {
-    println!(rt; "{number} {count} {held}")
+fn print_line(rt: &impl Print, answer: Result<usize, Fault>, held: usize) -> io::Result<()> {
+    match answer {
+        Ok(count) => println!(rt; "0 {count} {held}"),
+        Err(fault) => println!(rt; "{fault} 0 {held}"),
+    }
 }
 
-// Is the row as a table has it before it is read to?
-fn is_blank(q: &Quote) -> bool {
-    q.symbol == 0 && q.bid == 0.0 && q.ask == 0.0 && q.date == 0
-}
-
-// How many rows are not blank. A row that was read is not: its prices are above zero.
+// How many rows are not blank, as a table's are before it is read to. A row that was read is not: its
+// prices are above zero. A blank row has no NaN, which would not be equal to itself.
 fn filled(rows: &[Quote]) -> usize {
-    rows.iter().filter(|q| !is_blank(q)).count()
+    let blank = Quote::blank();
+    rows.iter().filter(|q| **q != blank).count()
 }
 
 // How many bytes from the place `at` on are as they were.
@@ -23,20 +24,23 @@ fn left(out: &[u8], at: usize) -> usize {
     out.iter().skip(at).filter(|b| **b == b'#').count()
 }
 
-// Writes the first `n` rows to a buffer that is full of `#`.
+// Writes the first `n` rows to a buffer that is full of `#`. The rows are an array with its count
+// beside it, as `write_on` takes them.
 fn print_written_to(
     rt: &impl Print,
     rows: [Quote; 257],
     n: usize,
     out: &mut [u8],
 ) -> io::Result<()> {
-    let x = write_on(rows, n, out);
-    print_line(rt, x.fault, x.bytes, left(out, x.bytes))?;
+    let answer = write_on(rows, n, out);
+    let bytes = answer.unwrap_or(0);
+    print_line(rt, answer, left(out, bytes))?;
     // No bytes are written where more are answered than the buffer has.
-    rt.write_all(out.get(..x.bytes).unwrap_or(b""))
+    rt.write_all(out.get(..bytes).unwrap_or(b""))
 }
 
-// Writes the first `n` rows to a buffer of `room` bytes, at most 15,105.
+// Writes the first `n` rows, an array with its count beside it as above, to a buffer of `room` bytes,
+// at most 15,105.
 pub fn print_written(rt: &impl Print, rows: [Quote; 257], n: usize, room: usize) -> io::Result<()> {
     let mut out = [b'#'; 15105];
     match out.get_mut(..room) {
@@ -49,9 +53,9 @@ pub fn print_written(rt: &impl Print, rows: [Quote; 257], n: usize, room: usize)
 // `bytes` bytes.
 pub fn print_read(rt: &impl Print, text: &[u8], rows: usize, bytes: usize) -> io::Result<()> {
     let x = read_on(text, rows);
-    print_line(rt, x.answer.fault, x.answer.rows, filled(&x.rows))?;
-    if x.answer.fault == 0 {
-        print_written(rt, x.rows, x.answer.rows, bytes)?;
+    print_line(rt, x.answer, filled(&x.rows))?;
+    match x.answer {
+        Ok(n) => print_written(rt, x.rows, n, bytes),
+        Err(_) => Ok(()),
     }
-    Ok(())
 }

@@ -30,10 +30,11 @@ fn printed(input: &[u8], out: &mut [u8]) -> usize
     ensures out_after { take result out.new ≡ printed_of input.now }
 {
     let x = read_on(input, 256);
-    if x.answer.fault > 0 {
-        return put_number(x.answer.fault as u64, out);
+    match x.answer {
+        // Rows that were read draw nothing where they are written.
+        Ok(n) => write_on(x.rows, n, out).unwrap_or(0),
+        Err(fault) => put_number(fault.number() as u64, out),
     }
-    write_on(x.rows, x.answer.rows, out).bytes
 }
 
 // Reads until `buf` is full or the input ends, and answers how many bytes came. A read that fails

@@ -1,4 +1,4 @@
--- Every call on a broker that draws 16 by itself draws it first and changes nothing; so on one whose lot is outside its range. Assumes nothing.
+-- Every call on a broker that draws Unsound by itself draws it first and changes nothing; so on one whose lot is outside its range. Assumes nothing.
 use Prim.Native.Nat.{ℕ}
 use mathlib.Core.Bool.{Bool, true, false, not, ◌||◌}
 use mathlib.Core.Path.{◌≡◌, refl, ap, ◌∙◌}

@@ -12,7 +12,8 @@ use Rattle.market.specs.declared.quote.Quote.{Quote}
 use Rattle.lists.specs.Lists.{given}
 use Rattle.reads.specs.Rows.{rows_at, rows_of}
 use Rattle.reads.specs.Answers.{AnswersList}
-use Rattle.reads.specs.declared.uist.ListRead.{ListRead}
+use Rattle.std.specs.declared.result.Result.{Result}
+use Rattle.market.specs.declared.fault.Fault.{Fault}
 use Rattle.broker.specs.declared.state.UistBroker.{UistBroker}
 
 -- what is gathered from rows that stand at their symbols' places
@@ -58,5 +59,5 @@ module _ (t : Table) where
       ∙ ap (λ (n : ℕ). gather quote_at (span 0 n)) long
 
 -- what is answered of rows is answered of equal ones
-pub same_rows : {A : Type 0} {b : UistBroker} {rows rows' l after : List A} {r : ListRead} → rows ≡ rows' → AnswersList b rows l r after → AnswersList b rows' l r after
+pub same_rows : {A : Type 0} {b : UistBroker} {rows rows' l after : List A} {r : Result ℕ Fault} → rows ≡ rows' → AnswersList b rows l r after → AnswersList b rows' l r after
 same_rows {A} {b} {rows} {rows'} {l} {after} {r} e a = subst (λ (k : List A). AnswersList b k l r after) e a

@@ -1,29 +1,22 @@
-// The broker's lists, read to lent lists. A call draws 16 where the counts do not hold together, then
-// 15 where the lent list is shorter than the rows; it then writes none.
-ghost use Rattle.std.specs.Prelude.{◌≡◌, ◌≤◌};
+// The broker's lists, read to lent lists: how many rows were written. A call draws 16 where the counts
+// do not hold together, then 15 where the lent list is shorter than the rows; it then writes none.
+ghost use Rattle.std.specs.Prelude.{◌≡◌, ◌≤◌, MatchResult};
 ghost use Rattle.lists.specs.Lists.{gather, holds};
 ghost use Rattle.portfolio.specs.State.{money_of};
 ghost use Rattle.reads.specs.Rows.{position_rows, holding_rows, pending_rows, quote_rows, cost_rows};
-ghost use Rattle.reads.specs.Answers.{read_of, AnswersList};
+ghost use Rattle.reads.specs.Answers.{list_fault, AnswersList};
 
 use crate::collected;
 use crate::collected::Holding;
 use broker::state::UistBroker;
 use costs::BrokerCost;
-use market::fault;
+use market::fault::Fault;
 use market::quote::Quote;
 use portfolio::value::unless_zero;
 use std::array;
 
-// How many rows were written, and the number drawn, or 0.
-#[derive(Clone, Copy)]
-pub struct ListRead {
-    pub count: usize,
-    pub fault: u32,
-}
-
 // The symbols that are held.
-pub fn get_positions(broker: UistBroker, positions: &mut [u32]) -> ListRead
+pub fn get_positions(broker: UistBroker, positions: &mut [u32]) -> Result<usize, Fault>
     ensures { AnswersList broker (position_rows (money_of broker.portfolio)) positions.old result positions.new }
 {
     let holding = &broker.portfolio.funds.holding;
@@ -32,7 +25,7 @@ pub fn get_positions(broker: UistBroker, positions: &mut [u32]) -> ListRead
 }
 
 // How much is held of each symbol that is.
-pub fn get_holdings(broker: UistBroker, holdings: &mut [Holding]) -> ListRead
+pub fn get_holdings(broker: UistBroker, holdings: &mut [Holding]) -> Result<usize, Fault>
     ensures { AnswersList broker (holding_rows (money_of broker.portfolio)) holdings.old result holdings.new }
 {
     let holding = &broker.portfolio.funds.holding;
@@ -44,7 +37,7 @@ pub fn get_holdings(broker: UistBroker, holdings: &mut [Holding]) -> ListRead
 }
 
 // The pending quantities, a sum of zero too.
-pub fn get_pending_orders(broker: UistBroker, pending: &mut [Holding]) -> ListRead
+pub fn get_pending_orders(broker: UistBroker, pending: &mut [Holding]) -> Result<usize, Fault>
     ensures { AnswersList broker (pending_rows (money_of broker.portfolio)) pending.old result pending.new }
 {
     let quantities = &broker.portfolio.funds.pending;
@@ -56,45 +49,41 @@ pub fn get_pending_orders(broker: UistBroker, pending: &mut [Holding]) -> ListRe
 }
 
 // The latest quotes; where the Rust answers `None`, no row.
-pub fn get_quotes(broker: UistBroker, quotes: &mut [Quote]) -> ListRead
+pub fn get_quotes(broker: UistBroker, quotes: &mut [Quote]) -> Result<usize, Fault>
     ensures { AnswersList broker (quote_rows (money_of broker.portfolio)) quotes.old result quotes.new }
 {
     answer(broker, &broker.portfolio.latest.rows, quotes)
 }
 
 // The broker's trade costs, in order.
-#[tactic(auto, unfolding(crate::specs::Rows::cost_rows))]
-pub fn get_trade_costs(broker: UistBroker, costs: &mut [BrokerCost]) -> ListRead
+#[tactic(auto, unfolding(crate::specs::Rows::cost_rows, crate::specs::Answers::read_of))]
+pub fn get_trade_costs(broker: UistBroker, costs: &mut [BrokerCost]) -> Result<usize, Fault>
     ensures { AnswersList broker (cost_rows (money_of broker.portfolio)) costs.old result costs.new }
 {
     let rows = broker.portfolio.costs.costs();
-    let read = list_read(broker, rows.len(), costs.len());
-    if read.fault == 0 {
-        costs[..rows.len()].copy_from_slice(rows);
-    }
-    read
+    fits(broker, rows.len(), costs.len())?;
+    costs[..rows.len()].copy_from_slice(rows);
+    Ok(rows.len())
 }
 
 // The answer for the rows that there are, which are written to the list.
-fn answer<T: Copy>(broker: UistBroker, rows: &[Option<T>], list: &mut [T]) -> ListRead
+#[tactic(auto, unfolding(crate::specs::Answers::read_of))]
+fn answer<T: Copy>(broker: UistBroker, rows: &[Option<T>], list: &mut [T]) -> Result<usize, Fault>
     ensures { AnswersList broker (gather holds rows.now) list.old result list.new }
 {
-    let read = list_read(broker, collected::count(rows), list.len());
-    if read.fault == 0 {
-        collected::store(rows, list);
-    }
-    read
+    let count = collected::count(rows);
+    fits(broker, count, list.len())?;
+    collected::store(rows, list);
+    Ok(count)
 }
 
-// The answer for `count` rows and a lent list of `room` entries.
-#[tactic(auto, unfolding(crate::specs::Answers::read_of, crate::specs::Answers::list_fault))]
-fn list_read(broker: UistBroker, count: usize, room: usize) -> ListRead
-    ensures read { result ≡ read_of broker count room }
-    ensures fits { result.fault ≡ 0 → count ≤ room }
+// Whether `count` rows can be read to a lent list of `room` entries: it then has a place for each.
+#[tactic(auto, using(crate::proofs::Lending::fits_lent), unfolding(crate::specs::Answers::list_fault))]
+fn fits(broker: UistBroker, count: usize, room: usize) -> Result<(), Fault>
+    ensures { MatchResult result (λ _. (list_fault broker count room ≡ None) × (count ≤ room)) (λ fault. list_fault broker count room ≡ Some fault) }
 {
-    let fault = broker.lender_fault(count, room);
-    ListRead {
-        count: fault::count_unless(fault, count),
-        fault,
+    if let Some(fault) = broker.lender_fault(count, room) {
+        return Err(fault);
     }
+    Ok(())
 }

@@ -29,7 +29,8 @@ fn picked(k: usize, wants: &[Want]) -> Option<Want> {
     wants.get(k).copied()
 }
 
-// The word at the place `k` behind the call's name, before its lists.
+// The word at the place `k` behind the call's name, before its lists. A match, since each verb has words
+// of its own.
 pub(crate) fn fixed(verb: Verb, k: usize) -> Option<Want> {
     match verb {
         Verb::New => picked(k, &[Want::Log, Want::Lot]),
@@ -60,7 +61,7 @@ pub(crate) fn fixed(verb: Verb, k: usize) -> Option<Want> {
     }
 }
 
-// The rows of the list at the place `k`.
+// The rows of the list at the place `k`, of each verb that has lists.
 pub(crate) fn row(verb: Verb, k: usize) -> Option<Want> {
     match verb {
         Verb::New => picked(k, &[Want::Cost, Want::Quote]),
@@ -73,7 +74,7 @@ pub(crate) fn row(verb: Verb, k: usize) -> Option<Want> {
     }
 }
 
-// How many rows a list of these has at most.
+// How many rows a list of these has at most: each kind has its own limit.
 pub(crate) fn most(want: Want) -> usize {
     match want {
         Want::Cost => 32,

@@ -98,6 +98,7 @@ enum Part {
     Revision,
 }
 
+// What is wrong with a part. Each kind of part has its own test.
 fn wrong_part(s: &[u8], part: Part) -> Result<(), Why> {
     match part {
         Part::Kind => named(s, &[b"mb", b"ms", b"lb", b"ls", b"sb", b"ss"], Why::NoOrder),
@@ -142,8 +143,8 @@ const WEIGHT: &[Part] = &[Part::Symbol, Part::Float];
 
 const COST: &[Part] = &[Part::CostName, Part::Float];
 
-// What is wrong with a word, for a program whose log has so many rows. Of a word that is read as a lot
-// its number is at most as large as a symbol.
+// What is wrong with a word, by a test for each kind of word, for a program whose log has so many rows.
+// Of a word that is read as a lot its number is at most as large as a symbol.
 pub(crate) fn wrong(want: Want, w: &[u8], rows: u64) -> Result<(), Why> {
     match want {
         Want::Float => float(w),

@@ -1,8 +1,11 @@
 // The answers of calls, and of lines that make none. docs/SCENARIOS.md has the forms.
-use crate::form::{Form, judged};
+use crate::form::Form;
 use account::BrokerCashEvent;
-use broker::read::{AmountRead, CountRead, FloatRead, ImpactRead, QuoteRead, StateRead};
+use broker::read::BrokerState;
+use costs::Impact;
+use market::fault::{After, Fault, ok_unless};
 use market::order::OrderEvent;
+use market::quote::Quote;
 use reasons::Reason;
 use reasons::wrong::Why;
 use std::fmt;
@@ -12,13 +15,13 @@ use std::fmt;
 pub enum Reply {
     Cash(BrokerCashEvent),
     Event(OrderEvent),
-    Deleted(u32),
-    Amount(AmountRead),
-    Quote(QuoteRead),
-    Float(FloatRead),
-    Impact(ImpactRead),
-    Count(CountRead),
-    State(StateRead),
+    Deleted(Option<Fault>),
+    Amount(Result<Option<f64>, Fault>),
+    Quote(Result<Option<Quote>, Fault>),
+    Float(Result<f64, Fault>),
+    Impact(Result<Impact, Fault>),
+    Count(Result<u64, Fault>),
+    State(After<BrokerState>),
 }
 
 impl fmt::Display for Reply {
@@ -26,13 +29,13 @@ impl fmt::Display for Reply {
         match *self {
             Reply::Cash(x) => Form(x).fmt(f),
             Reply::Event(x) => Form(x).fmt(f),
-            Reply::Deleted(fault) => Form(judged(fault, "done")).fmt(f),
-            Reply::Amount(x) => Form(judged(x.fault, x.amount)).fmt(f),
-            Reply::Quote(x) => Form(judged(x.fault, x.quote)).fmt(f),
-            Reply::Float(x) => Form(judged(x.fault, x.value)).fmt(f),
-            Reply::Impact(x) => Form(judged(x.fault, x.impact)).fmt(f),
-            Reply::Count(x) => Form(judged(x.fault, x.count)).fmt(f),
-            Reply::State(x) => Form(judged(x.fault, x.state)).fmt(f),
+            Reply::Deleted(fault) => Form(ok_unless(fault, "done")).fmt(f),
+            Reply::Amount(x) => Form(x).fmt(f),
+            Reply::Quote(x) => Form(x).fmt(f),
+            Reply::Float(x) => Form(x).fmt(f),
+            Reply::Impact(x) => Form(x).fmt(f),
+            Reply::Count(x) => Form(x).fmt(f),
+            Reply::State(x) => Form(ok_unless(x.fault, x.state)).fmt(f),
         }
     }
 }

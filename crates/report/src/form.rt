@@ -1,9 +1,10 @@
 // The forms in which a scenario's values are written (docs/SCENARIOS.md).
-ghost use Rattle.std.specs.Prelude.{◌≡◌, ◌≢◌, Ok, Err, IfOk, length, min, take};
+ghost use Rattle.std.specs.Prelude.{◌≡◌, Err, IsOkAnd, MatchResult, length, min, take};
 
 use account::BrokerCashEvent;
 use broker::read::BrokerState;
 use costs::{BrokerCost, Impact};
+use market::fault::{Fault, ok_unless};
 use market::order::{Order, OrderEvent, OrderType};
 use market::quote::Quote;
 use market::trade::{Trade, TradeType};
@@ -14,20 +15,11 @@ use std::fmt;
 #[derive(Clone, Copy)]
 pub struct Form<T>(pub T);
 
-// What is answered, or the number that was drawn.
-pub fn judged<T: Copy>(fault: u32, answer: T) -> Result<T, u32>
-    ensures ok { fault ≡ 0 → result ≡ Ok answer }
-    ensures err { fault ≢ 0 → result ≡ Err fault }
+// The first rows of a list, as many as were answered, or what was drawn.
+pub fn first_rows<T: Copy>(answer: Result<usize, Fault>, rows: &[T]) -> Form<Result<&[T], Fault>>
+    ensures { MatchResult answer (λ count. IsOkAnd result.0 (λ first. first.now ≡ take (min count (length rows.now)) rows.now)) (λ fault. result.0 ≡ Err fault) }
 {
-    if fault == 0 { Ok(answer) } else { Err(fault) }
-}
-
-// The same of a list's first rows, as many as are said.
-pub fn judged_rows<T: Copy>(fault: u32, rows: &[T], count: usize) -> Form<Result<&[T], u32>>
-    ensures ok { fault ≡ 0 → IfOk result.0 (λ first. first.now ≡ take (min count (length rows.now)) rows.now) }
-    ensures err { fault ≢ 0 → result.0 ≡ Err fault }
-{
-    Form(judged(fault, &rows[..count.min(rows.len())]))
+    Form(answer.map(|count| &rows[..count.min(rows.len())]))
 }
 
 impl fmt::Display for Form<u32> {
@@ -95,16 +87,15 @@ impl fmt::Display for Form<Order> {
     }
 }
 
-// The order that was taken, or the number that it drew.
+// The order that was taken, or what it drew.
 impl fmt::Display for Form<OrderEvent> {
     fn fmt<W: fmt::Write>(&self, f: &mut fmt::Formatter<W>) -> fmt::Result {
         let event = self.0;
         let order = Form(event.order);
-        if event.fault == 0 {
-            return write!(f, "taken:{order}");
+        match event.fault {
+            None => write!(f, "taken:{order}"),
+            Some(fault) => write!(f, "{fault}:{order}"),
         }
-        let fault = event.fault;
-        write!(f, "{fault}:{order}")
     }
 }
 
@@ -175,20 +166,19 @@ impl fmt::Display for Form<&str> {
     }
 }
 
-// The amount that was moved, or the number that was drawn and the amount that was asked for.
+// The amount that was moved, or what was drawn and the amount that was asked for.
 impl fmt::Display for Form<BrokerCashEvent> {
     fn fmt<W: fmt::Write>(&self, f: &mut fmt::Formatter<W>) -> fmt::Result {
-        let (fault, x) = match self.0 {
-            BrokerCashEvent::DepositSuccess(x) => (0, x),
-            BrokerCashEvent::WithdrawSuccess(x) => (0, x),
-            BrokerCashEvent::NotFinite(x) => (2, x),
-            BrokerCashEvent::OperationFailure(x) => (4, x),
-            BrokerCashEvent::WithdrawFailure(x) => (12, x),
-            BrokerCashEvent::Broken(x) => (16, x),
+        let amount = match self.0 {
+            BrokerCashEvent::DepositSuccess(x)
+            | BrokerCashEvent::WithdrawSuccess(x)
+            | BrokerCashEvent::NotFinite(x)
+            | BrokerCashEvent::OperationFailure(x)
+            | BrokerCashEvent::WithdrawFailure(x)
+            | BrokerCashEvent::Broken(x) => Form(x),
         };
-        let done = Form(judged(fault, "done"));
-        let x = Form(x);
-        write!(f, "{done} {x}")
+        let done = Form(ok_unless(self.0.fault(), "done"));
+        write!(f, "{done} {amount}")
     }
 }
 
@@ -208,8 +198,8 @@ where
     }
 }
 
-// What was answered, or the number that was drawn.
-impl<T: Copy> fmt::Display for Form<Result<T, u32>>
+// What was answered, or what was drawn.
+impl<T: Copy> fmt::Display for Form<Result<T, Fault>>
 where
     Form<T>: fmt::Display,
 {

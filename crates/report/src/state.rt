@@ -1,107 +1,112 @@
 // What a broker holds, written a line each. docs/SCENARIOS.md has the forms.
-use crate::form::{Form, judged};
-use broker::read::{AmountRead, FloatRead};
+use crate::form::Form;
 use broker::state::UistBroker;
-use exchange::state::UistV1;
-use market::table::Table;
-use portfolio::state::Funds;
+use market::fault::Fault;
 use std::io;
 use std::io::Write;
 
-fn read(x: FloatRead) -> Form<Result<f64, u32>> {
-    Form(judged(x.fault, x.value))
+// A broker beside its turnover, which is read from the log, and where both are written.
+#[derive(Drop)]
+pub struct State<'a, W> {
+    pub out: &'a mut W,
+    pub broker: &'a UistBroker,
+    pub turnover: Result<f64, Fault>,
 }
 
-fn money(out: &mut impl Write, b: &UistBroker, turnover: FloatRead) -> io::Result<()> {
-    let cash = read(b.get_cash_balance());
-    let state = Form(b.get_broker_state().state);
-    write!(out, " cash {cash} state {state}")?;
-    let total = read(b.get_total_value());
-    let liquidation = read(b.get_liquidation_value());
-    let turnover = read(turnover);
-    writeln!(
-        out,
-        " total {total} liquidation {liquidation} turnover {turnover}"
-    )
-}
+impl<W: Write> State<'_, W> {
+    fn money(&mut self) -> io::Result<()> {
+        let cash = Form(self.broker.get_cash_balance());
+        let state = Form(self.broker.get_broker_state().state);
+        write!(self.out, " cash {cash} state {state}")?;
+        let total = Form(self.broker.get_total_value());
+        let liquidation = Form(self.broker.get_liquidation_value());
+        let turnover = Form(self.turnover);
+        writeln!(
+            self.out,
+            " total {total} liquidation {liquidation} turnover {turnover}"
+        )
+    }
 
-fn held(out: &mut impl Write, funds: &Funds) -> io::Result<()> {
-    write!(out, " held")?;
-    for (symbol, x) in funds.holding.iter().enumerate() {
-        if *x != 0.0 {
-            let x = Form(*x);
-            write!(out, " {symbol}:{x}")?;
+    fn held(&mut self) -> io::Result<()> {
+        write!(self.out, " held")?;
+        for (symbol, x) in self.broker.portfolio.funds.holding.iter().enumerate() {
+            if *x != 0.0 {
+                let x = Form(*x);
+                write!(self.out, " {symbol}:{x}")?;
+            }
         }
+        writeln!(self.out)
     }
-    writeln!(out)
-}
 
-fn pending(out: &mut impl Write, funds: &Funds) -> io::Result<()> {
-    write!(out, " pending")?;
-    for (symbol, quantity) in funds.pending.iter().enumerate() {
-        if let Some(x) = quantity {
-            let x = Form(*x);
-            write!(out, " {symbol}:{x}")?;
+    fn pending(&mut self) -> io::Result<()> {
+        write!(self.out, " pending")?;
+        for (symbol, quantity) in self.broker.portfolio.funds.pending.iter().enumerate() {
+            if let Some(x) = quantity {
+                let x = Form(*x);
+                write!(self.out, " {symbol}:{x}")?;
+            }
         }
+        writeln!(self.out)
     }
-    writeln!(out)
-}
 
-fn latest(out: &mut impl Write, quotes: &Table) -> io::Result<()> {
-    write!(out, " latest")?;
-    for quote in quotes.rows.iter().flatten() {
-        let quote = Form(*quote);
-        write!(out, " {quote}")?;
+    fn latest(&mut self) -> io::Result<()> {
+        write!(self.out, " latest")?;
+        for quote in self.broker.portfolio.latest.rows.iter().flatten() {
+            let quote = Form(*quote);
+            write!(self.out, " {quote}")?;
+        }
+        writeln!(self.out)
     }
-    writeln!(out)
-}
 
-// The lines of money, holdings, pending quantities and latest quotes.
-pub fn first_lines(out: &mut impl Write, b: &UistBroker, turnover: FloatRead) -> io::Result<()> {
-    money(out, b, turnover)?;
-    held(out, &b.portfolio.funds)?;
-    pending(out, &b.portfolio.funds)?;
-    latest(out, &b.portfolio.latest)
-}
-
-// A symbol's basis, in the bases' line.
-pub fn basis(out: &mut impl Write, symbol: u32, x: AmountRead) -> io::Result<()> {
-    let amount = Form(x.amount);
-    write!(out, " {symbol}:{amount}")
-}
-
-// The end of the bases' line, and the head of the trades': how many were logged.
-pub fn trades_head(out: &mut impl Write, b: &UistBroker, turnover: FloatRead) -> io::Result<()> {
-    if turnover.fault != 0 {
-        let refused = read(turnover);
-        write!(out, " {refused}")?;
+    // The lines of money, holdings, pending quantities and latest quotes.
+    pub fn first_lines(&mut self) -> io::Result<()> {
+        self.money()?;
+        self.held()?;
+        self.pending()?;
+        self.latest()
     }
-    let count = b.executed_trade_count().count;
-    write!(out, "\n trades {count}")
-}
 
-fn waiting(out: &mut impl Write, e: &UistV1) -> io::Result<()> {
-    write!(out, "\n waiting")?;
-    let c = e.counts;
-    for x in e.book.iter().skip(c.resting).take(c.waits) {
-        let order = Form(x.order);
-        write!(out, " {order}")?;
+    // A symbol's basis, in the bases' line.
+    pub fn basis(&mut self, symbol: u32, basis: Result<Option<f64>, Fault>) -> io::Result<()> {
+        let basis = Form(basis.unwrap_or(None));
+        write!(self.out, " {symbol}:{basis}")
     }
-    Ok(())
-}
 
-fn resting(out: &mut impl Write, e: &UistV1) -> io::Result<()> {
-    write!(out, "\n resting")?;
-    for x in e.book.iter().take(e.counts.resting) {
-        let id = x.id;
-        let order = Form(x.order);
-        write!(out, " {id}:{order}")?;
+    // The end of the bases' line, and the head of the trades': how many were logged.
+    pub fn trades_head(&mut self) -> io::Result<()> {
+        if self.turnover.is_err() {
+            let refused = Form(self.turnover);
+            write!(self.out, " {refused}")?;
+        }
+        let count = self.broker.executed_trade_count().unwrap_or(0);
+        write!(self.out, "\n trades {count}")
     }
-    writeln!(out)
-}
 
-// The end of the trades' line, and the lines of the book.
-pub fn last_lines(out: &mut impl Write, b: &UistBroker) -> io::Result<()> {
-    waiting(out, &b.exchange)?;
-    resting(out, &b.exchange)
+    fn waiting(&mut self) -> io::Result<()> {
+        write!(self.out, "\n waiting")?;
+        let exchange = &self.broker.exchange;
+        let c = exchange.counts;
+        for x in exchange.book.iter().skip(c.resting).take(c.waits) {
+            let order = Form(x.order);
+            write!(self.out, " {order}")?;
+        }
+        Ok(())
+    }
+
+    fn resting(&mut self) -> io::Result<()> {
+        write!(self.out, "\n resting")?;
+        let exchange = &self.broker.exchange;
+        for x in exchange.book.iter().take(exchange.counts.resting) {
+            let id = x.id;
+            let order = Form(x.order);
+            write!(self.out, " {id}:{order}")?;
+        }
+        writeln!(self.out)
+    }
+
+    // The end of the trades' line, and the lines of the book.
+    pub fn last_lines(&mut self) -> io::Result<()> {
+        self.waiting()?;
+        self.resting()
+    }
 }

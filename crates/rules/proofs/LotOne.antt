@@ -10,6 +10,8 @@ use lib.Ieee.{Float}
 use Rattle.std.specs.Prelude.{unwrap_or}
 use Rattle.lists.specs.Lists.{given}
 use Rattle.market.specs.Faults.{◌draws◌, drawn}
+use Rattle.market.specs.declared.fault.Fault.{Fault}
+use Rattle.market.specs.declared.fault.Fault.TheVariants.{NothingToWeigh, BeyondLot}
 use Rattle.market.specs.declared.order.Order.{Order}
 use Rattle.market.specs.declared.quote.Quote.{Quote}
 use Rattle.market.specs.declared.weight.Weight.{Weight}
@@ -45,7 +47,7 @@ module _ (m : Money) (e : m.lot ≡ 1) where
   planned walk = plan_as (drawn (plan_tests (liquidation_value m) walk)) (sells_first (unwrap_or walk []))
 
   -- 18 is not drawn where the walk is there
-  thirteen : (b : Bool) → drawn ((b draws 13) ∷ (false draws 18) ∷ []) ≡ drawn ((b draws 13) ∷ [])
+  thirteen : (b : Bool) → drawn ((b draws NothingToWeigh) ∷ (false draws BeyondLot) ∷ []) ≡ drawn ((b draws NothingToWeigh) ∷ [])
   unfolding drawn
   thirteen b = grind arith
 
@@ -53,4 +55,4 @@ module _ (m : Money) (e : m.lot ≡ 1) where
   unfolding plan_of whole_plan
   lot-one-plan l =
       ap planned (walk-whole (liquidation_value m) l)
-      ∙ ap (λ (n : ℕ). plan_as n (sells_first (whole_walk m (liquidation_value m) l))) (thirteen (is_zero (liquidation_value m)))
+      ∙ ap (λ (n : Option Fault). plan_as n (sells_first (whole_walk m (liquidation_value m) l))) (thirteen (is_zero (liquidation_value m)))

@@ -3,6 +3,7 @@ use Rattle.std.specs.Prelude.{Bool, false, not, ◌&&◌, List, [], ◌∷◌, �
 use Rattle.std.specs.Prelude.{Option, is_none}
 use Rattle.lists.specs.Lists.{given}
 use Rattle.market.specs.Faults.{Test, ◌draws◌}
+use Rattle.market.specs.declared.fault.Fault.TheVariants.{BrokerFailed, Unquoted, NotMarket, ExceedsCash, ExceedsHolding, ZeroShares}
 use Rattle.market.specs.Orders.{order_tests, is_sell, is_market}
 use Rattle.market.specs.declared.order.Order.{Order}
 use Rattle.market.specs.declared.quote.Quote.{Quote}
@@ -20,12 +21,12 @@ exceeds_holding o holding = is_sell o.kind && given holding false (λ h. not (at
 -- 4 broker Failed, 5 no latest quote, 6 limit or stop, 7 cash, 8 holding, 9 zero shares; then 10 and 11
 abbrev pub send_tests_at : Bool → Float → Option Quote → Option Float → Order → List Test
 send_tests_at failed cash quote holding o =
-    (failed draws 4) ∷
-    (is_none quote draws 5) ∷
-    (not (is_market o.kind) draws 6) ∷
-    (exceeds_cash cash o quote draws 7) ∷
-    (exceeds_holding o holding draws 8) ∷
-    (is_zero o.shares draws 9) ∷ []
+    (failed draws BrokerFailed) ∷
+    (is_none quote draws Unquoted) ∷
+    (not (is_market o.kind) draws NotMarket) ∷
+    (exceeds_cash cash o quote draws ExceedsCash) ∷
+    (exceeds_holding o holding draws ExceedsHolding) ∷
+    (is_zero o.shares draws ZeroShares) ∷ []
 
 -- 1, 2, then the above, then the tests of room, 10 and 11
 abbrev pub send_tests : Money → List Test → Order → List Test

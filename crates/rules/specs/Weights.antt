@@ -3,6 +3,8 @@ use Rattle.std.specs.Prelude.{ℕ, Bool, true, false, cond, List, [], ◌∷◌,
 use Rattle.std.specs.Prelude.{Option, None, Some, is_none, option_map, unwrap_or}
 use Rattle.lists.specs.Lists.{given}
 use Rattle.market.specs.Faults.{Test, ◌draws◌, drawn, unless_drawn}
+use Rattle.market.specs.declared.fault.Fault.{Fault}
+use Rattle.market.specs.declared.fault.Fault.TheVariants.{NothingToWeigh, BeyondLot}
 use Rattle.market.specs.Orders.{zero64, market_order}
 use Rattle.market.specs.declared.order.OrderType.TheVariants.{MarketSell, MarketBuy}
 use Rattle.market.specs.declared.order.Order.{Order}
@@ -55,18 +57,18 @@ wanted m v (w ∷ l) =
     let d = difference m v w in
     cond (is_zero d) (Some []) (then_rows (row_orders m d w) (wanted m v l))
 
--- what the walk comes to: the number drawn, or 0, and the orders
+-- what the walk comes to: what is drawn, and the orders
 pub record Plan : Type 0 where
-  pub fault : ℕ
+  pub fault : Option Fault
   pub orders : List Order
 
 -- 13 where the liquidation value is zero, 18 where the walk meets a quotient that the lot does not round
 abbrev pub plan_tests : Float → Option (List Order) → List Test
-plan_tests v walk = (is_zero v draws 13) ∷ (is_none walk draws 18) ∷ []
+plan_tests v walk = (is_zero v draws NothingToWeigh) ∷ (is_none walk draws BeyondLot) ∷ []
 
 -- no order is listed where a number is drawn
-abbrev pub plan_as : ℕ → List Order → Plan
-plan_as n l = record { fault = n; orders = unless_drawn n l [] }
+abbrev pub plan_as : Option Fault → List Order → Plan
+plan_as d l = record { fault = d; orders = unless_drawn d l [] }
 
 -- sales listed first
 unfoldable pub plan_of : Money → List Weight → Plan

@@ -3,6 +3,7 @@
 use Rattle.std.specs.Prelude.{true, false, cond, List, [], ◌∷◌, ◌++◌, Float}
 use Rattle.lists.specs.Lists.{given}
 use Rattle.market.specs.Faults.{◌draws◌, drawn}
+use Rattle.market.specs.declared.fault.Fault.TheVariants.{NothingToWeigh}
 use Rattle.market.specs.Orders.{zero64}
 use Rattle.market.specs.declared.order.Order.{Order}
 use Rattle.market.specs.declared.quote.Quote.{Quote}
@@ -34,4 +35,4 @@ whole_walk m v (w ∷ l) =
 
 -- 13 alone
 unfoldable pub whole_plan : Money → List Weight → Plan
-whole_plan m l = let v = liquidation_value m in plan_as (drawn ((is_zero v draws 13) ∷ [])) (sells_first (whole_walk m v l))
+whole_plan m l = let v = liquidation_value m in plan_as (drawn ((is_zero v draws NothingToWeigh) ∷ [])) (sells_first (whole_walk m v l))

@@ -73,10 +73,10 @@ impl<R: CpuClock, W: Write> Session<'_, R, W> {
     }
 
     // A deletion. It is answered first, so that its time is without the copy of what it leaves.
-    fn delete(&mut self, from: Option<u64>, b: &mut UistBroker, c: &Call) -> io::Result<()> {
-        let x = b.delete_order(c.whole);
+    fn delete(&mut self, from: Option<u64>, b: &mut UistBroker, order_id: u64) -> io::Result<()> {
+        let x = b.delete_order(order_id);
         self.reply(from, Reply::Deleted(x.fault))?;
-        *b = x.broker;
+        *b = x.state;
         Ok(())
     }
 
@@ -130,7 +130,7 @@ impl<R: CpuClock, W: Write> Session<'_, R, W> {
                 writeln!(self.out, " {reason}")
             }
             Verb::Liquidate | Verb::Insert => self.sell_or_insert(from, b, c),
-            Verb::Delete => self.delete(from, b, c),
+            Verb::Delete => self.delete(from, b, c.whole),
             _ if !is_call(c) => self.view.set(&mut self.out, c),
             _ if log_calls::needs_log(c) => self.log_call(b, line.bytes(), c, log),
             _ if list_calls::is_listed(c) => self.list_call(b, line.bytes(), c),
@@ -200,7 +200,8 @@ impl<R: CpuClock, W: Write> Session<'_, R, W> {
 
 // The broker before the first `new`: no log, no quotes.
 fn first_broker() -> UistBroker {
-    UistBroker::build(TradeCosts::none(), 1, ReadTable::empty(), 0).broker
+    let built = UistBroker::build(TradeCosts::none(), 1, ReadTable::empty(), 0);
+    built.unwrap_or(UistBroker::none())
 }
 
 // Runs the scenario on standard input, with a log of so many rows. They stand on the stack, so they are

@@ -4,24 +4,31 @@ use broker::state::UistBroker;
 use lent::uist;
 use market::trade::Trade;
 use report::form::Form;
-use report::state;
+use report::state::State;
 use std::io;
 use std::io::Write;
 
 // The bases of the symbols that have traded.
-fn bases(out: &mut impl Write, v: &View, b: &UistBroker, log: &[Trade]) -> io::Result<()> {
+fn bases(state: &mut State<'_, impl Write>, v: &View, log: &[Trade]) -> io::Result<()> {
+    write!(state.out, " basis")?;
+    if state.turnover.is_err() {
+        return Ok(());
+    }
     for symbol in 0..256u32 {
         if v.traded[symbol as usize] {
-            let basis = uist::cost_basis(*b, log, symbol);
-            state::basis(out, symbol, basis)?;
+            let basis = uist::cost_basis(*state.broker, log, symbol);
+            state.basis(symbol, basis)?;
         }
     }
     Ok(())
 }
 
-// The log's rows that hold trades.
-fn logged<'a>(b: &UistBroker, log: &'a [Trade]) -> &'a [Trade] {
-    let count = b.executed_trade_count().count;
+// The log's rows that hold trades; none where they are not known.
+fn logged<'a>(state: &State<'_, impl Write>, log: &'a [Trade]) -> &'a [Trade] {
+    if state.turnover.is_err() {
+        return &log[..0];
+    }
+    let count = state.broker.executed_trade_count().unwrap_or(0);
     let count = usize::try_from(count).unwrap_or(log.len());
     &log[..count.min(log.len())]
 }
@@ -31,31 +38,28 @@ fn logged<'a>(b: &UistBroker, log: &'a [Trade]) -> &'a [Trade] {
 pub(crate) fn show(
     out: &mut impl Write,
     v: &mut View,
-    b: &UistBroker,
+    broker: &UistBroker,
     log: &[Trade],
 ) -> io::Result<()> {
-    if b.get_cash_balance().fault != 0 {
-        return writeln!(out, " refused 16");
+    if let Err(fault) = broker.get_cash_balance() {
+        return writeln!(out, " refused {fault}");
     }
-    let turnover = uist::turnover(*b, log);
-    // Where a number is drawn the log's trades are not known.
-    let trades = if turnover.fault == 0 {
-        logged(b, log)
-    } else {
-        &log[..0]
+    let turnover = uist::turnover(*broker, log);
+    let mut state = State {
+        out,
+        broker,
+        turnover,
     };
+    let trades = logged(&state, log);
     let new = &trades[v.shown.min(trades.len())..];
     v.see(new);
     v.shown = v.shown.max(trades.len());
-    state::first_lines(out, b, turnover)?;
-    write!(out, " basis")?;
-    if turnover.fault == 0 {
-        bases(out, v, b, log)?;
-    }
-    state::trades_head(out, b, turnover)?;
+    state.first_lines()?;
+    bases(&mut state, v, log)?;
+    state.trades_head()?;
     for t in new {
         let trade = Form(*t);
-        write!(out, " {trade}")?;
+        write!(state.out, " {trade}")?;
     }
-    state::last_lines(out, b)
+    state.last_lines()
 }

@@ -13,8 +13,10 @@ use std::io::Write;
 #[derive(Clone, Copy)]
 pub struct View {
     pub rows: usize,
+    // A setting, which nothing goes with.
     pub quiet: bool,
     pub shown: usize,
+    // A set of symbols, with a place for each.
     pub traded: [bool; 256],
     pub calls: u64,
     pub micros: u64,

@@ -5,14 +5,12 @@ ghost use Rattle.sender.specs.Sound.{sound_fault};
 
 use exchange::state::Counts;
 use floats::lot;
+use market::fault::Fault;
 
-// 16, or 0.
+// 16 where the counts do not hold together, or the lot is out of its range.
 #[tactic(auto, unfolding(market::specs::Faults::drawn))]
-pub fn fault(counts: Counts, lot: u32) -> u32
+pub fn fault(counts: Counts, lot: u32) -> Option<Fault>
     ensures { result ≡ sound_fault counts lot }
 {
-    if counts.broken() {
-        return 16;
-    }
-    if lot::is_lot(lot) { 0 } else { 16 }
+    (counts.broken() || !lot::is_lot(lot)).then_some(Fault::Unsound)
 }

@@ -66,6 +66,7 @@ pub struct Input<R> {
     reader: BufReader<R>,
     line: Vec<u8>,
     number: u64,
+    // The input's end was read: the lines behind it are none, and no value goes with that.
     has_ended: bool,
 }
 

@@ -15,6 +15,7 @@ pub struct Sums {
 }
 
 impl Sums {
+    // No sums. (`no_basis` of portfolio is another thing: a quantity, and the value that it cost.)
     pub fn none() -> Sums
         ensures { result ≡ no_sums }
     {

@@ -41,7 +41,7 @@ fn print_tick(rt: &impl Print, x: Ticked) -> io::Result<()> {
 
 fn main(rt: HostRuntime) -> io::Result<()> {
     let inserted = UistV1::new(16).insert_order(Order::market_buy(7, 10.0));
-    let first = inserted.exchange.tick(quoted(99.0, 100.0, 1));
+    let first = inserted.state.tick(quoted(99.0, 100.0, 1));
     print_tick(&rt, first)?;
     let second = first.exchange.tick(quoted(101.0, 102.0, 2));
     print_tick(&rt, second)

@@ -1,63 +1,107 @@
--- From rows and a number by value to what is stated of a lent table in which they are stored; from what the crate `lines` answers to what is stated of lent tables
--- and buffers, and of arrays whose first rows are lent. Assumes nothing.
+-- From what a call by value answers, rows or a refusal, to what is stated of a lent table in which the rows are stored; from what the crate `lines` answers to what
+-- is stated of lent tables and buffers, and of arrays whose first rows are lent. Assumes nothing.
 use Prim.Native.Nat.{ℕ, min, ◌≤◌}
 use native.Mathlib.Omega.{arith}
 use mathlib.Core.Path.{◌≡◌, refl, sym, ◌∙◌, ap, ap₂}
-use mathlib.Core.List.{List, ◌++◌, append_assoc}
+use mathlib.Core.List.{List, [], ◌++◌, append_assoc}
 use lib.ListN.{length, take, drop, replicate, take-append-drop}
 use lib.Seq.{length-take-le, drop-append-le}
+use Rattle.std.specs.declared.option.Option.{Option}
+use Rattle.std.specs.declared.option.Option.TheVariants.{None, Some}
+use Rattle.std.specs.declared.result.Result.{Result}
+use Rattle.std.specs.declared.result.Result.TheVariants.{Ok, Err}
+use Rattle.std.specs.Result.{result_unwrap_or, result_err}
+use Rattle.std.proofs.lemmas.Option.{none-some}
 use Rattle.lists.specs.Lists.{over}
 use Rattle.lists.proofs.Over.{take-over}
+use Rattle.market.specs.Faults.{unless_drawn, ok_unless}
+use Rattle.market.specs.declared.fault.Fault.{Fault}
 use Rattle.market.specs.Quotes.{blank_quote, listing, table_of}
 use Rattle.market.specs.declared.quote.Quote.{Quote}
 use Rattle.market.specs.declared.table.Table.{Table}
+use Rattle.market.specs.declared.table.QuoteRows.{QuoteRows}
 use Rattle.lines.specs.Reading.{read_fault, rows_read, read_of}
 use Rattle.lines.specs.Writing.{WritesTable, table_fault, table_written, write_fault, text_written}
-use Rattle.market.specs.declared.table.QuoteRows.{QuoteRows}
-use Rattle.lines.specs.declared.write.Written.{Written}
-use Rattle.lines.proofs.Loading.{read_is}
 use Rattle.lines.proofs.Tables.{table-fault, table-written}
 use Rattle.lines.proofs.Theorems.{rows_fit}
 use Rattle.vendor.specs.Answers.{AnswersRead, AnswersWrite, lines_answer, read_on}
-use Rattle.vendor.specs.declared.answer.TableAnswer.{TableAnswer}
 use Rattle.vendor.specs.declared.on_arrays.TableRead.{TableRead}
 
--- ---- rows and a number, which stand in x, stored in a lent table
+-- ---- a value, or a refusal
 
-module _ (l : List Quote) (fault : ℕ) {x : QuoteRows} (is : x ≡ listing l fault) where
-  -- they fit the array, and a table of `room` rows
-  pub listing-within : (room : ℕ) → length l ≤ min room 256 → (x.count ≤ 257) × (x.count ≤ room)
-  listing-within room few = rw is (omega (arith, few), omega (arith, few))
+pub refusal-is : {A : Type 0} (d : Option Fault) (a : A) → result_err (ok_unless d a) ≡ d
+refusal-is None a = refl
+refusal-is (Some f) a = refl
 
-  pub listing-answer : ◌≡◌ {A = TableAnswer} (record { rows = x.count; fault = x.fault }) (record { rows = length l; fault = fault })
-  listing-answer = ap (λ (y : QuoteRows). record { rows = y.count; fault = y.fault }) is
+-- a value is told where nothing is drawn, and it is that one
+pub value-told : {A : Type 0} (d : Option Fault) (a : A) {x : A} → Ok x ≡ ok_unless d a → (d ≡ None) × (x ≡ a)
+value-told None a e = (refl, ap (λ r. result_unwrap_or r a) e)
+value-told (Some f) a e = absurd (none-some f (ap result_err e))
 
-  pub listing-stored : (table : List Quote) → over (take x.count x.rows) table ≡ over l table
-  listing-stored table = rw is (ap (λ (k : List Quote). over k table) (take-over l (replicate 257 blank_quote) (length l) refl))
+-- a refusal is told where it is drawn
+pub refusal-told : {A : Type 0} (d : Option Fault) (a : A) {f : Fault} → Err f ≡ ok_unless d a → d ≡ Some f
+refusal-told d a e = sym (refusal-is d a) ∙ sym (ap result_err e)
+
+-- ---- rows where nothing is drawn, stored in a lent table
+
+module _ (d : Option Fault) (l : List Quote) where
+  abbrev pub shown : List Quote
+  shown = unless_drawn d l []
+
+  -- how many they are, or 0
+  pub shown-count : result_unwrap_or (ok_unless d (length shown)) 0 ≡ length shown
+  shown-count = go d
+    where
+      go : (k : Option Fault) → result_unwrap_or (ok_unless k (length (unless_drawn k l []))) 0 ≡ length (unless_drawn k l [])
+      go None = refl
+      go (Some f) = refl
+
+  -- a refusal leaves the table as it was
+  module _ {f : Fault} (told : Err f ≡ ok_unless d (listing shown)) where
+    pub refusal-answer : Err f ≡ ok_unless d (length shown)
+    refusal-answer = rw (refusal-told d (listing shown) told) refl
+
+    pub refusal-stored : (table : List Quote) → table ≡ over shown table
+    refusal-stored table = rw (refusal-told d (listing shown) told) refl
+
+  module _ {x : QuoteRows} (told : Ok x ≡ ok_unless d (listing shown)) where
+    -- they fit the array, and a table of `room` rows
+    pub rows-within : (room : ℕ) → length shown ≤ min room 256 → (x.count ≤ 257) × (x.count ≤ room)
+    rows-within room few = rw (value-told d (listing shown) told).1 (omega (arith, few), omega (arith, few))
+
+    pub rows-answer : {n : ℕ} → n ≡ x.count → Ok n ≡ ok_unless d (length shown)
+    rows-answer is = let t = value-told d (listing shown) told in ap Ok (is ∙ ap (λ (y : QuoteRows). y.count) t.1) ∙ sym (ap (λ (o : Option Fault). ok_unless o (length shown)) t.0)
+
+    pub rows-stored : (table : List Quote) → over (take x.count x.rows) table ≡ over shown table
+    rows-stored table = rw (value-told d (listing shown) told).1 (ap (λ (k : List Quote). over k table) (take-over shown (replicate 257 blank_quote) (length shown) refl))
 
 -- ---- the text s, read for a table of `room` rows
 
-listed : (s : List ℕ) (room : ℕ) {x : QuoteRows} → x ≡ read_of room s → x ≡ listing (rows_read room s) (read_fault room s)
-listed s room is = is ∙ read_is room s
+pub read_within : (s : List ℕ) (room : ℕ) {x : QuoteRows} → Ok x ≡ read_of room s → (x.count ≤ 257) × (x.count ≤ room)
+unfolding rows_read read_of
+read_within s room told = rows-within (read_fault room s) _ told room (rows_fit room s)
 
-pub rows-within : (s : List ℕ) (room : ℕ) {x : QuoteRows} → x ≡ read_of room s → (x.count ≤ 257) × (x.count ≤ room)
-rows-within s room is = listing-within (rows_read room s) (read_fault room s) (listed s room is) room (rows_fit room s)
+module _ (s : List ℕ) (table : List Quote) where
+  pub read_refused : {f : Fault} → Err f ≡ read_of (length table) s → AnswersRead s table (Err f) table
+  unfolding rows_read read_of
+  read_refused told =
+      let d = read_fault (length table) s in
+      record { answer = refusal-answer d _ told; table_is = refusal-stored d _ told table }
 
-pub read-answers : (s : List ℕ) (table : List Quote) {x : QuoteRows} {z : TableAnswer} {after : List Quote} → x ≡ read_of (length table) s →
-    z ≡ record { rows = x.count; fault = x.fault } → after ≡ over (take x.count x.rows) table → AnswersRead s table z after
-read-answers s table is is-z stored =
-    let room = length table in
-    let l = listed s room is in
-    record { answer = is-z ∙ listing-answer (rows_read room s) (read_fault room s) l; table_is = stored ∙ listing-stored (rows_read room s) (read_fault room s) l table }
+  pub read_answers : {x : QuoteRows} {n : ℕ} {after : List Quote} → Ok x ≡ read_of (length table) s → n ≡ x.count → after ≡ over (take x.count x.rows) table → AnswersRead s table (Ok n) after
+  unfolding rows_read read_of
+  read_answers told is stored =
+      let d = read_fault (length table) s in
+      record { answer = rows-answer d _ told is; table_is = stored ∙ rows-stored d _ told table }
 
 -- ---- the text of a table
 
-pub write-answers : (table : List Quote) (t : Table) (out after : List ℕ) (z : Written) → t ≡ table_of table → WritesTable t out z after → AnswersWrite table out z after
-write-answers table t out after z is-t w =
+pub write_answers : (table : List Quote) (t : Table) (out after : List ℕ) (z : Result ℕ Fault) → t ≡ table_of table → WritesTable t out z after → AnswersWrite table out z after
+write_answers table t out after z is-t w =
     let fault : table_fault (length out) t ≡ write_fault (length out) table = ap (table_fault (length out)) is-t ∙ table-fault (length out) table in
     let text : table_written (length out) t ≡ text_written (length out) table = ap (table_written (length out)) is-t ∙ table-written (length out) table in
     record {
-      answer = w.answer ∙ ap₂ (λ (k : List ℕ) (n : ℕ). record { bytes = length k; fault = n }) text fault;
+      answer = w.answer ∙ ap₂ (λ (d : Option Fault) (k : List ℕ). ok_unless d (length k)) fault text;
       buffer-is = w.buffer ∙ ap (λ (k : List ℕ). over k out) text;
     }
 
@@ -72,10 +116,10 @@ stored-part {A} k l n short fits =
 read-at : List ℕ → ℕ → TableRead
 read-at s n = record { answer = lines_answer n s; rows = over (rows_read n s) (replicate 257 blank_quote) }
 
-pub read-on-answers : (s : List ℕ) (room : ℕ) {n : ℕ} {e after : List Quote} {y : TableAnswer} → n ≡ min room 257 → e ≡ replicate 257 blank_quote → length e ≡ 257 → AnswersRead s (take n e) y after →
+pub read_on_answers : (s : List ℕ) (room : ℕ) {n : ℕ} {e after : List Quote} {y : Result ℕ Fault} → n ≡ min room 257 → e ≡ replicate 257 blank_quote → length e ≡ 257 → AnswersRead s (take n e) y after →
     ◌≡◌ {A = TableRead} (record { answer = y; rows = after ++ drop n e }) (read_on s room)
 unfolding read-at
-read-on-answers s room {n} {e} {after} {y} is-n is-e long done =
+read_on_answers s room {n} {e} {after} {y} is-n is-e long done =
     let fits : n ≤ length e = omega (arith, is-n, long) in
     let m = length (take n e) in
     let lent : m ≡ n = length-take-le n e fits in
@@ -84,5 +128,5 @@ read-on-answers s room {n} {e} {after} {y} is-n is-e long done =
     ∙ stored-part (rows_read m s) e n (omega (arith, rows_fit m s, lent)) fits
     ∙ ap (over (rows_read m s)) is-e in
     let here : ◌≡◌ {A = TableRead} (record { answer = y; rows = after ++ drop n e }) (read-at s m)
-    = ap₂ (λ (x : TableAnswer) (l : List Quote). record { answer = x; rows = l }) done.answer rows in
+    = ap₂ (λ (x : Result ℕ Fault) (l : List Quote). record { answer = x; rows = l }) done.answer rows in
     here ∙ ap (read-at s) (lent ∙ is-n)

@@ -4,10 +4,12 @@ use native.Mathlib.Omega.{arith}
 use mathlib.Core.List.{List, [], ◌∷◌}
 use Rattle.std.specs.declared.option.Option.{Option}
 use Rattle.std.specs.declared.option.Option.TheVariants.{None, Some}
+use Rattle.std.specs.declared.result.Result.TheVariants.{Ok, Err}
 use mathlib.Core.Path.{◌≡◌, refl, ◌∙◌}
 use lib.ListN.{length, take, length-append}
 use Rattle.lists.specs.Lists.{over, span, gather, given}
 use Rattle.market.specs.Faults.{unless_drawn}
+use Rattle.market.specs.declared.fault.Fault.{Fault}
 use Rattle.market.specs.VendorQuotes.{quote_of}
 use Rattle.market.specs.declared.quote.Quote.{Quote}
 use Rattle.market.specs.declared.table.QuoteRows.{QuoteRows}
@@ -15,8 +17,7 @@ use Rattle.market.specs.declared.vendor_quote.VendorQuote.{VendorQuote}
 use Rattle.corrections.specs.Corrections.{winner, corrected_of, correct_fault, rows_shown, corrected_for}
 use Rattle.corrections.proofs.Drawing.{none-corrects}
 use Rattle.vendor.specs.Corrects.{AnswersCorrect}
-use Rattle.vendor.specs.declared.answer.TableAnswer.{TableAnswer}
-use Rattle.vendor.proofs.Answering.{listing-within, listing-answer, listing-stored}
+use Rattle.vendor.proofs.Answering.{rows-within, rows-answer, rows-stored, refusal-answer, refusal-stored}
 
 -- ---- the rows shown: at most one for each of 256 symbols, and none where the table has fewer places
 
@@ -36,20 +37,25 @@ pub shown-fit : (room n : ℕ) (rows : List VendorQuote) → length (rows_shown 
 unfolding rows_shown
 shown-fit room n rows = go (correct_fault room n rows) refl
   where
-    go : (k : ℕ) → correct_fault room n rows ≡ k → length (unless_drawn k (corrected_of rows) []) ≤ min room 256
-    go zero e = omega (arith, corrected-few rows, (none-corrects room n rows e).0)
-    go (suc k) e = omega arith
+    go : (d : Option Fault) → correct_fault room n rows ≡ d → length (unless_drawn d (corrected_of rows) []) ≤ min room 256
+    go None e = omega (arith, corrected-few rows, (none-corrects room n rows e).0)
+    go (Some f) e = omega arith
 
 -- ---- the rows given
 
-pub shown-within : (room : ℕ) (rows : List VendorQuote) {x : QuoteRows} → x ≡ corrected_for room (length rows) rows → (x.count ≤ 257) × (x.count ≤ room)
-unfolding corrected_for
-shown-within room rows is = listing-within (rows_shown room (length rows) rows) (correct_fault room (length rows) rows) is room (shown-fit room (length rows) rows)
+pub shown_within : (room : ℕ) (rows : List VendorQuote) {x : QuoteRows} → Ok x ≡ corrected_for room (length rows) rows → (x.count ≤ 257) × (x.count ≤ room)
+unfolding rows_shown corrected_for
+shown_within room rows told = rows-within (correct_fault room (length rows) rows) (corrected_of rows) told room (shown-fit room (length rows) rows)
 
-pub correct-answers : (rows : List VendorQuote) (table : List Quote) {x : QuoteRows} {z : TableAnswer} {after : List Quote} → x ≡ corrected_for (length table) (length rows) rows →
-    z ≡ record { rows = x.count; fault = x.fault } → after ≡ over (take x.count x.rows) table → AnswersCorrect rows table z after
-unfolding corrected_for
-correct-answers rows table is is-z stored =
-    let l = rows_shown (length table) (length rows) rows in
-    let fault = correct_fault (length table) (length rows) rows in
-    record { answer = is-z ∙ listing-answer l fault is; table_is = stored ∙ listing-stored l fault is table }
+module _ (rows : List VendorQuote) (table : List Quote) where
+  pub correct_refused : {f : Fault} → Err f ≡ corrected_for (length table) (length rows) rows → AnswersCorrect rows table (Err f) table
+  unfolding rows_shown corrected_for
+  correct_refused told =
+      let d = correct_fault (length table) (length rows) rows in
+      record { answer = refusal-answer d (corrected_of rows) told; table_is = refusal-stored d (corrected_of rows) told table }
+
+  pub correct_answers : {x : QuoteRows} {n : ℕ} {after : List Quote} → Ok x ≡ corrected_for (length table) (length rows) rows → n ≡ x.count → after ≡ over (take x.count x.rows) table → AnswersCorrect rows table (Ok n) after
+  unfolding rows_shown corrected_for
+  correct_answers told is stored =
+      let d = correct_fault (length table) (length rows) rows in
+      record { answer = rows-answer d (corrected_of rows) told is; table_is = stored ∙ rows-stored d (corrected_of rows) told table }

@@ -1,28 +1,28 @@
 -- Quote lines read to a lent table, and written from one: document 02, request 2. Definitions only.
-use Rattle.std.specs.Prelude.{ℕ, min, List, ◌≡◌, length, replicate}
+use Rattle.std.specs.Prelude.{ℕ, min, List, ◌≡◌, length, replicate, Result}
 use Rattle.lists.specs.Lists.{over}
+use Rattle.market.specs.Faults.{ok_unless}
+use Rattle.market.specs.declared.fault.Fault.{Fault}
 use Rattle.market.specs.Quotes.{blank_quote}
 use Rattle.market.specs.declared.quote.Quote.{Quote}
 use Rattle.lines.specs.Reading.{read_fault, rows_read}
 use Rattle.lines.specs.Writing.{write_fault, text_written}
-use Rattle.lines.specs.declared.write.Written.{Written}
-use Rattle.vendor.specs.declared.answer.TableAnswer.{TableAnswer}
 use Rattle.vendor.specs.declared.on_arrays.TableRead.{TableRead}
 
--- how many rows a text has for a table of `room` rows, and the number drawn, or 0
-abbrev pub lines_answer : ℕ → List ℕ → TableAnswer
-lines_answer room s = record { rows = length (rows_read room s); fault = read_fault room s }
+-- how many rows a text has for a table of `room` rows, or what was drawn
+abbrev pub lines_answer : ℕ → List ℕ → Result ℕ Fault
+lines_answer room s = ok_unless (read_fault room s) (length (rows_read room s))
 
 -- the text s, read to a lent table; `after` is the table at exit: the rows stand in its first places, its old entries past them. Where a number is drawn
 -- there are no rows, and the table is as it was
-pub record AnswersRead (s : List ℕ) (table : List Quote) (r : TableAnswer) (after : List Quote) : Type 0 where
+pub record AnswersRead (s : List ℕ) (table : List Quote) (r : Result ℕ Fault) (after : List Quote) : Type 0 where
   pub answer : r ≡ lines_answer (length table) s
   pub table_is : after ≡ over (rows_read (length table) s) table
 
 -- the text of a lent table, written to a lent buffer; `after` is the buffer at exit: the text stands in its first places, its old bytes past it. Where a
 -- number is drawn there is no text, and the buffer is as it was
-pub record AnswersWrite (table : List Quote) (out : List ℕ) (r : Written) (after : List ℕ) : Type 0 where
-  pub answer : r ≡ record { bytes = length (text_written (length out) table); fault = write_fault (length out) table }
+pub record AnswersWrite (table : List Quote) (out : List ℕ) (r : Result ℕ Fault) (after : List ℕ) : Type 0 where
+  pub answer : r ≡ ok_unless (write_fault (length out) table) (length (text_written (length out) table))
   pub buffer-is : after ≡ over (text_written (length out) table) out
 
 -- ---- for a caller whose tables are arrays of 257 rows

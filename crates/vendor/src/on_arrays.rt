@@ -2,15 +2,14 @@
 ghost use Rattle.std.specs.Prelude.{◌≡◌, min, take};
 ghost use Rattle.vendor.specs.Answers.{read_on, AnswersWrite};
 
-use crate::answer::TableAnswer;
 use crate::quote_lines::{read_lines, write_lines};
-use lines::write::Written;
+use market::fault::Fault;
 use market::quote::Quote;
 
 // An answer, with the table that was lent.
 #[derive(Clone, Copy)]
 pub struct TableRead {
-    pub answer: TableAnswer,
+    pub answer: Result<usize, Fault>,
     pub rows: [Quote; 257],
 }
 
@@ -26,7 +25,7 @@ pub fn read_on(input: &[u8], room: usize) -> TableRead
 }
 
 // Writes the text of the first `n` rows.
-pub fn write_on(rows: [Quote; 257], n: usize, out: &mut [u8]) -> Written
+pub fn write_on(rows: [Quote; 257], n: usize, out: &mut [u8]) -> Result<usize, Fault>
     ensures { AnswersWrite (take (min n 257) rows) out.old result out.new }
 {
     write_lines(&rows[..n.min(257)], out)

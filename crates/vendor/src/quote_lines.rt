@@ -1,22 +1,24 @@
 // Quote lines, read to a lent table and written from one to a lent buffer.
 ghost use Rattle.vendor.specs.Answers.{AnswersRead, AnswersWrite};
 
-use crate::answer::{TableAnswer, store_rows};
+use crate::store::store_rows;
 use lines::read::read;
-use lines::write::{Written, write};
+use lines::write::write;
+use market::fault::Fault;
 use market::quote::Quote;
 use market::table::ReadTable;
 
 // Reads the lines of a text to the table's first places.
-pub fn read_lines(input: &[u8], table: &mut [Quote]) -> TableAnswer
+#[tactic(auto, using(crate::proofs::Answering::read_refused, crate::proofs::Answering::read_within))]
+pub fn read_lines(input: &[u8], table: &mut [Quote]) -> Result<usize, Fault>
     ensures { AnswersRead input.now table.old result table.new }
 {
-    let x = read(input, table.len());
-    store_rows(&x, table)
+    let x = read(input, table.len())?;
+    Ok(store_rows(&x, table))
 }
 
 // Writes the text of a table to the buffer's first bytes.
-pub fn write_lines(table: &[Quote], out: &mut [u8]) -> Written
+pub fn write_lines(table: &[Quote], out: &mut [u8]) -> Result<usize, Fault>
     ensures { AnswersWrite table.now out.old result out.new }
 {
     write(ReadTable::of(table), out)

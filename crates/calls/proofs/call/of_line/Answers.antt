@@ -5,5 +5,5 @@ use Rattle.calls.proofs.call.of_line.Goals as goal
 
 pub returns : goal.returns
 returns c = read_or c.args.line.now _ c.unwrap_or.ensures c.plain.ensures
-    ∙ c.of_words.ensures
+    ∙ c.of_verb.ensures
     ∙ said-is c.args.line.now _ c.first_at-next.ensures.word c.first_at-next.ensures.rest _ c.named.ensures

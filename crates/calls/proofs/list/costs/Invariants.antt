@@ -3,4 +3,4 @@ use Rattle.calls.proofs.Lists.{Gathered}
 use Rattle.calls.proofs.list.costs.Given as goal
 
 abbrev pub invariant-loop-i : goal.invariant-loop-i
-invariant-loop-i l = Gathered l.line l.at l.n l.list l.place l._i
+invariant-loop-i l = Gathered l.line l.fn.span.at l.fn.span.count l.list l.place l._i

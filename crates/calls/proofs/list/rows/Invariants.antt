@@ -6,4 +6,4 @@ use Rattle.calls.proofs.Lists.{Filled}
 use Rattle.calls.proofs.list.rows.Given as goal
 
 abbrev pub invariant-loop-i : goal.invariant-loop-i
-invariant-loop-i g l = Filled (λ (w : List ℕ). unwrap_or (g.R.WordRow.row_of w) g.R.WordRow.blank_row) g.R.WordRow.blank_row g.row.N l.line l.at l.n l.list l.place l.i
+invariant-loop-i g l = Filled (λ (w : List ℕ). unwrap_or (g.R.WordRow.row_of w) g.R.WordRow.blank_row) g.R.WordRow.blank_row g.row.N l.line l.fn.span.at l.fn.span.count l.list l.place l.i

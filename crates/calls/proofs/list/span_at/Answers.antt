@@ -3,7 +3,7 @@
 use mathlib.Core.Path.{sym, ◌∙◌}
 use borrow.Author.Tests.{not-true, not-false}
 use Rattle.calls.specs.Lists.{spanned}
-use Rattle.calls.proofs.Lists.{none_passed, tested, ends-well, ends-ill, many, fewer, unfit, passed-more}
+use Rattle.calls.proofs.Lists.{none_passed, tested, ends-well, ends-ill, many, unfit, passed-more}
 use Rattle.calls.proofs.list.span_at.Goals as goal
 
 pub loop-w-init : goal.loop-w-init
@@ -23,9 +23,6 @@ returns-then-count-most c = many _ _ _ _ _ _ _ c.loop-w.invariant _ c.first_at-n
 pub returns-then-not-is_row : goal.returns-then-not-is_row
 unfolding spanned
 returns-then-not-is_row c = unfit _ _ _ _ _ _ _ c.loop-w.invariant _ c.first_at-next.ensures.word c.first_at-next.ensures.rest _ c.is_slash-slash.ensures (tested _ _ c.is_empty.ensures c.if-slash-is_empty.false) (sym c.is_row.ensures ∙ c.if-not-is_row.true)
-
-pub loop-w-smaller : goal.loop-w-smaller
-loop-w-smaller c = fewer _ _ _ _ _ _ _ c.loop-w.invariant _ c.first_at-next.ensures.word c.first_at-next.ensures.rest _ c.is_slash-slash.ensures (tested _ _ c.is_empty.ensures c.if-slash-is_empty.false)
 
 pub loop-w-preserved : goal.loop-w-preserved
 loop-w-preserved c = passed-more _ _ _ _ _ _ _ c.loop-w.invariant _ c.first_at-next.ensures.word c.first_at-next.ensures.rest _ c.is_slash-slash.ensures (tested _ _ c.is_empty.ensures c.if-slash-is_empty.false) c.if-count-most.false (sym c.is_row.ensures ∙ c.if-not-is_row.false)

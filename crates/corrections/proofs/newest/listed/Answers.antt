@@ -14,4 +14,4 @@ loop-place-preserved c = elim c.match-place.branch [
 ]
 
 pub returns : goal.returns
-returns c = lists-all _ _ _ _ _ c.loop-place-test.false (omega arith) c.loop-place.invariant
+returns c = lists-all _ _ _ _ c.loop-place-test.false (omega arith) c.loop-place.invariant

@@ -4,9 +4,6 @@ use Rattle.floats.proofs.Cut.{holds}
 use Rattle.floats.proofs.Multiples.{whole-more, whole_same}
 use Rattle.floats.proofs.lot.whole_over.Goals as goal
 
-pub int_to_float-n : goal.int_to_float-n
-int_to_float-n c = holds c.whole_under-n.result (omega (arith, c.whole_under-n.ensures.1))
-
 pub returns-then-n-a : goal.returns-then-n-a
 returns-then-n-a c = (whole-more c.args.a c.whole_under-n.result c.requires.above_zero c.requires.in_range c.whole_under-n.ensures.0 c.if-n-a.true, omega (arith, c.whole_under-n.ensures.1))
 

@@ -1,12 +1,13 @@
 -- the walk by value, and its orders stored in the list
-use Rattle.lent.proofs.Plans.{walk-fits, walk-answers}
+use Rattle.std.proofs.Common.{rules}
+use Rattle.lent.proofs.Plans.{walk-fits, walk-lists, walk-refused}
 use Rattle.lent.proofs.uist.diff_against_target_weights.Goals as goal
 
-pub shared_ref_as_front-store : goal.shared_ref_as_front-store
-shared_ref_as_front-store c = (walk-fits c.args.broker c.args.weights.now c.args.orders.now c.of-w.ensures c.diff_against_target_weights-walked.ensures).0
+pub returns-in_err-listed : goal.returns-in_err-listed
+returns-in_err-listed c = let w = walk-refused c.args.broker c.args.weights.now c.args.orders.now c.of-w.ensures c.in_err-listed.field-0.0 c.in_err-listed.ensures in search rules
 
 pub store-requires : goal.store-requires
-store-requires c = (walk-fits c.args.broker c.args.weights.now c.args.orders.now c.of-w.ensures c.diff_against_target_weights-walked.ensures).1
+store-requires c = let w = walk-fits c.args.broker c.args.weights.now c.args.orders.now c.of-w.ensures c.in_ok-listed.listed c.in_ok-listed.ensures in search rules
 
 pub returns : goal.returns
-returns c = walk-answers c.args.broker c.args.weights.now c.args.orders.now c.of-w.ensures c.diff_against_target_weights-walked.ensures _ c.store.ensures
+returns c = let w = walk-lists c.args.broker c.args.weights.now c.args.orders.now c.of-w.ensures c.in_ok-listed.listed c.in_ok-listed.ensures in search rules

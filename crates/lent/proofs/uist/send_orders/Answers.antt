@@ -1,22 +1,16 @@
 -- the first i orders are sent, and their events told
-use Rattle.std.proofs.Common.{take, arith}
-use Rattle.lent.proofs.Sends.{sends_none, sends-one, sent-fits, send-answers}
+use Rattle.std.proofs.Common.{sym, ◌∙◌}
+use Rattle.lent.proofs.Sends.{sends_none, sends-one, send-answers, send-refused}
 use Rattle.lent.proofs.uist.send_orders.Goals as goal
 
-pub loop-i-init : goal.loop-i-init
-loop-i-init c =
-    sends_none c.args.broker (take c.count_unless-n.result c.args.orders.now) c.args.events.now
-    (sent-fits c.args.broker c.args.orders.now c.args.events.now c.lender_fault-fault.ensures c.count_unless-n.ensures).2
+pub returns-in-Some : goal.returns-in-Some
+returns-in-Some c = send-refused c.args.broker c.args.orders.now c.args.events.now c.in-Some.fault (sym c.lender_fault.ensures ∙ c.in-Some.is)
 
-pub bounds-events-i : goal.bounds-events-i
-bounds-events-i c =
-    omega (arith, c.loop-i-test.true, c.loop-i.auto.events, (sent-fits c.args.broker c.args.orders.now c.args.events.now c.lender_fault-fault.ensures c.count_unless-n.ensures).1)
+pub loop-i-init : goal.loop-i-init
+loop-i-init c = sends_none c.args.broker c.args.orders.now c.args.events.now (sym c.lender_fault.ensures ∙ c.in_default.is)
 
 pub loop-i-preserved : goal.loop-i-preserved
-loop-i-preserved c =
-    sends-one c.args.broker (take c.count_unless-n.result c.args.orders.now) c.args.events.now
-    (sent-fits c.args.broker c.args.orders.now c.args.events.now c.lender_fault-fault.ensures c.count_unless-n.ensures).1
-    c.loop-i.invariant c.loop-i-test.true _ c.send_order-sent.result c.send_order-sent.ensures
+loop-i-preserved c = sends-one c.args.broker c.args.orders.now c.args.events.now c.loop-i.invariant c.loop-i-test.true _ c.send_order-sent.result c.send_order-sent.ensures
 
 pub returns : goal.returns
-returns c = send-answers c.args.broker c.args.orders.now c.args.events.now c.lender_fault-fault.ensures c.count_unless-n.ensures c.loop-i.invariant c.loop-i-test.false
+returns c = send-answers c.args.broker c.args.orders.now c.args.events.now c.loop-i.invariant c.loop-i-test.false

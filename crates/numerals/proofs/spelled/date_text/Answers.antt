@@ -10,9 +10,6 @@ use Rattle.numerals.proofs.Dates.{size_few, by_size}
 use Rattle.numerals.proofs.Stores.{spells}
 use Rattle.numerals.proofs.spelled.date_text.Goals as goal
 
-pub returns-then-date-ge0 : goal.returns-then-date-ge0
-returns-then-date-ge0 c = rw (by_size c.args.date c.ranges.date c.unsigned_abs-n.result c.unsigned_abs-n.ensures.value true c.if-date-ge0.true) c.decimal_text.ensures
-
 pub spell-requires : goal.spell-requires
 spell-requires c = (omega (arith, size_few c.args.date c.ranges.date c.unsigned_abs-n.result c.unsigned_abs-n.ensures.value), omega arith, omega arith)
 

@@ -9,12 +9,6 @@ use Rattle.numerals.specs.Numerals.{last_digits}
 use Rattle.numerals.proofs.Stores.{stored-none, stored-digit}
 use Rattle.numerals.proofs.spelled.spell.Goals as goal
 
-pub loop-i-init : goal.loop-i-init
-loop-i-init c = (omega arith, search rules, refl)
-
-pub glyph-requires : goal.glyph-requires
-glyph-requires c = omega (arith, mod-lt c.loop-i.rest c.requires.1)
-
 pub loop-i-preserved : goal.loop-i-preserved
 loop-i-preserved c = let i : 0 < c.loop-i.i = c.loop-i-test.true in (
   omega arith,

@@ -1,9 +1,12 @@
--- `tick` meets its contract: what its calls give, put together, is the tick's definition, also where a number is drawn and
+-- `tick` meets its contract: what its calls give, put together, is the tick's definition, also where something is drawn and
 -- nothing trades or is booked.
-use Rattle.std.proofs.Common.{◌≡◌, ℕ, zero, suc, ◌+◌, ◌-◌, ◌≤◌, List, map, take, drop, sym, ap, ◌∙◌, arith}
+use Rattle.std.proofs.Common.{◌≡◌, ℕ, ◌+◌, ◌-◌, ◌≤◌, List, map, take, drop, sym, ap, ◌∙◌, arith}
+use Rattle.std.specs.declared.option.Option.{Option}
+use Rattle.std.specs.declared.option.Option.TheVariants.{None, Some}
 use Rattle.lists.specs.Lists.{keep}
 use Rattle.market.specs.Faults.{unless_drawn, first_drawn}
-use Rattle.market.proofs.Faults.{first-none}
+use Rattle.market.specs.declared.fault.Fault.{Fault}
+use Rattle.market.proofs.Faults.{first-none, some-drawn}
 use Rattle.market.specs.Quotes.{row_at}
 use Rattle.market.specs.declared.table.Table.{Table}
 use Rattle.exchange.specs.State.{broken_fault, resting_of, waiting_of}
@@ -19,21 +22,21 @@ use Rattle.exchange.proofs.Executing.{few-executed}
 use Rattle.exchange.proofs.Booking.{book-none, booked-behind}
 use Rattle.exchange.proofs.state.UistV1.tick.Goals as goal
 
--- a tick that draws no number has counts that hold together
-sound-at : (c : Counts) (fault : ℕ) → 0 ≡ first_drawn (broken_fault c) fault → Sound c
+-- a tick that draws nothing has counts that hold together
+sound-at : (c : Counts) (fault : Option Fault) → None ≡ first_drawn (broken_fault c) fault → Sound c
 sound-at c fault h = fault-sound c (first-none (broken_fault c) fault (sym h)).0
 
 -- what it goes over fits the book
-fits : (c : Counts) (fault n : ℕ) → n ≡ first_drawn (broken_fault c) fault → unless_drawn n c.resting 0 + unless_drawn n c.waits 0 ≤ 1024
-fits c fault zero h = (sound-at c fault h).together
-fits c fault (suc n) h = omega arith
+fits : (c : Counts) (fault n : Option Fault) → n ≡ first_drawn (broken_fault c) fault → unless_drawn n c.resting 0 + unless_drawn n c.waits 0 ≤ 1024
+fits c fault None h = (sound-at c fault h).together
+fits c fault (Some n) h = omega arith
 
 -- and the log
-logs-fit : (c : Counts) (fault n k : ℕ) → n ≡ first_drawn (broken_fault c) fault → k ≤ unless_drawn n c.resting 0 → n ≡ 0 → c.logged + k ≤ c.taken
-logs-fit c fault zero k h l z = omega (arith, (sound-at c fault h).logs)
-logs-fit c fault (suc n) k h l z = absurd (omega arith)
+logs-fit : (c : Counts) (fault n : Option Fault) (k : ℕ) → n ≡ first_drawn (broken_fault c) fault → k ≤ unless_drawn n c.resting 0 → n ≡ None → c.logged + k ≤ c.taken
+logs-fit c fault None k h l z = omega (arith, (sound-at c fault h).logs)
+logs-fit c fault (Some n) k h l z = absurd (some-drawn n z)
 
-abbrev answer : Counts → ℕ → ℕ → Executed → Booking → Ticked
+abbrev answer : Counts → ℕ → Option Fault → Executed → Booking → Ticked
 answer c first n x b = record { exchange = record { book = b.book; counts = c }; trades = x.trades; count = x.count; first = first; fault = n }
 
 module _ (e : UistV1) (t : Table) where
@@ -53,62 +56,62 @@ module _ (e : UistV1) (t : Table) where
   after x b = counts_after e.counts b.at b.ids x.count
 
   acts : (x : Executed) (b : Booking) → x ≡ execute_of e.book e.counts.resting t →
-      b ≡ book_waiting_of e.book e.counts.resting e.counts.waits (from-kept x) → answer (after x b) e.counts.logged 0 x b ≡ tick_done e (row_at t)
+      b ≡ book_waiting_of e.book e.counts.resting e.counts.waits (from-kept x) → answer (after x b) e.counts.logged None x b ≡ tick_done e (row_at t)
   unfolding execute_of book_waiting_of ticked
   acts x b p q =
       let x₀ = execute_of e.book e.counts.resting t in
       let b₀ = q ∙ ap (λ (y : Executed). book_waiting_of e.book e.counts.resting e.counts.waits (from-kept y)) p
       ∙ ap (λ l. book_side_of (from-kept x₀) (sells_first l)) waiting-in
       ∙ booked-behind kept e.book e.counts.ids (sells_first (waiting_of e)) in
-      ap (λ (y : Executed). answer (after y b) e.counts.logged 0 y b) p ∙ ap (λ (d : Booking). answer (after x₀ d) e.counts.logged 0 x₀ d) b₀
+      ap (λ (y : Executed). answer (after y b) e.counts.logged None y b) p ∙ ap (λ (d : Booking). answer (after x₀ d) e.counts.logged None x₀ d) b₀
 
-  rests : (x : Executed) (b : Booking) (n : ℕ) → x ≡ execute_of e.book 0 t → b ≡ book_waiting_of e.book 0 0 (from-kept x) → answer e.counts 0 n x b ≡ refused_with e n
+  rests : (x : Executed) (b : Booking) (n : Option Fault) → x ≡ execute_of e.book 0 t → b ≡ book_waiting_of e.book 0 0 (from-kept x) → answer e.counts 0 n x b ≡ refused_with e n
   unfolding execute_of book_waiting_of
   rests x b n p q =
       let x₀ = execute_of e.book 0 t in
       let b₀ = q ∙ book-none (from-kept x) ∙ ap from-kept p in
       ap (λ (y : Executed). answer e.counts 0 n y b) p ∙ ap (answer e.counts 0 n x₀) b₀
 
-  tick-by : (n : ℕ) → n ≡ tick_fault e t.fault → unless_drawn n (tick_done e (row_at t)) (refused_with e n) ≡ tick_of e t
+  tick-by : (n : Option Fault) → n ≡ tick_fault e t.fault → unless_drawn n (tick_done e (row_at t)) (refused_with e n) ≡ tick_of e t
   unfolding tick_of
-  tick-by n h = ap (λ (m : ℕ). unless_drawn m (tick_done e (row_at t)) (refused_with e m)) h
+  tick-by n h = ap (λ (m : Option Fault). unless_drawn m (tick_done e (row_at t)) (refused_with e m)) h
 
-  done : (n r w f : ℕ) (x : Executed) (b : Booking) (c : Counts) → n ≡ tick_fault e t.fault → r ≡ unless_drawn n e.counts.resting 0 → w ≡ unless_drawn n e.counts.waits 0 →
+  done : (n : Option Fault) (r w f : ℕ) (x : Executed) (b : Booking) (c : Counts) → n ≡ tick_fault e t.fault → r ≡ unless_drawn n e.counts.resting 0 → w ≡ unless_drawn n e.counts.waits 0 →
       x ≡ execute_of e.book r t → b ≡ book_waiting_of e.book r w (from-kept x) → c ≡ unless_drawn n (after x b) e.counts → f ≡ unless_drawn n e.counts.logged 0 →
       answer c f n x b ≡ tick_of e t
-  done zero r w f x b c h hr hw p q hc hf =
+  done None r w f x b c h hr hw p q hc hf =
       let p₀ = p ∙ ap (λ (m : ℕ). execute_of e.book m t) hr in
       let q₀ = q ∙ ap (λ (m : ℕ). book_waiting_of e.book m w (from-kept x)) hr ∙ ap (λ (m : ℕ). book_waiting_of e.book e.counts.resting m (from-kept x)) hw in
-      ap (λ (d : Counts). answer d f 0 x b) hc ∙ ap (λ (m : ℕ). answer (after x b) m 0 x b) hf ∙ acts x b p₀ q₀ ∙ tick-by 0 h
-  done (suc n) r w f x b c h hr hw p q hc hf =
+      ap (λ (d : Counts). answer d f None x b) hc ∙ ap (λ (m : ℕ). answer (after x b) m None x b) hf ∙ acts x b p₀ q₀ ∙ tick-by None h
+  done (Some n) r w f x b c h hr hw p q hc hf =
       let p₀ = p ∙ ap (λ (m : ℕ). execute_of e.book m t) hr in
       let q₀ = q ∙ ap (λ (m : ℕ). book_waiting_of e.book m w (from-kept x)) hr ∙ ap (λ (m : ℕ). book_waiting_of e.book 0 m (from-kept x)) hw in
-      ap (λ (d : Counts). answer d f (suc n) x b) hc ∙ ap (λ (m : ℕ). answer e.counts m (suc n) x b) hf ∙ rests x b (suc n) p₀ q₀ ∙ tick-by (suc n) h
+      ap (λ (d : Counts). answer d f (Some n) x b) hc ∙ ap (λ (m : ℕ). answer e.counts m (Some n) x b) hf ∙ rests x b (Some n) p₀ q₀ ∙ tick-by (Some n) h
 
 -- no more stay, or trade, than the tick goes over
 kept-fits : (book : List Booked) (t : Table) (r : ℕ) (x : Executed) → x ≡ execute_of book r t → x.kept + x.count ≤ r
 unfolding execute_of
 kept-fits book t r x p = rw p (few-executed (row_at t) book r)
 
--- 16, then the table's number
-number_is : (c : Counts) (n b f : ℕ) → n ≡ first_drawn b f → b ≡ broken_fault c → n ≡ first_drawn (broken_fault c) f
-number_is c n b f h e = h ∙ ap (λ (k : ℕ). first_drawn k f) e
+-- 16, then what the table drew
+fault_is : (c : Counts) (n b f : Option Fault) → n ≡ first_drawn b f → b ≡ broken_fault c → n ≡ first_drawn (broken_fault c) f
+fault_is c n b f h e = h ∙ ap (λ (k : Option Fault). first_drawn k f) e
 
 -- what the tick goes over, after the second count
-over-fits : (c : Counts) (f n r w : ℕ) → n ≡ first_drawn (broken_fault c) f → r ≡ unless_drawn n c.resting 0 → w ≡ unless_drawn n c.waits 0 → r + w ≤ 1024
+over-fits : (c : Counts) (f n : Option Fault) (r w : ℕ) → n ≡ first_drawn (broken_fault c) f → r ≡ unless_drawn n c.resting 0 → w ≡ unless_drawn n c.waits 0 → r + w ≤ 1024
 over-fits c f n r w h hr hw = omega (arith, hr, hw, fits c f n h)
 
 pub execute_orders-kept-requires : goal.execute_orders-kept-requires
-execute_orders-kept-requires c = omega (arith, over-fits c.args.self.counts c.table-table.result.fault _ _ _ (number_is c.args.self.counts _ _ c.table-table.result.fault c.first-fault.ensures c.fault.ensures) c.count_unless-resting.ensures c.count_unless-waits.ensures)
+execute_orders-kept-requires c = omega (arith, over-fits c.args.self.counts c.table-table.result.fault _ _ _ (fault_is c.args.self.counts _ _ c.table-table.result.fault c.or-fault.ensures c.fault.ensures) c.unless_drawn-resting.ensures c.unless_drawn-waits.ensures)
 
 pub book_waiting-requires : goal.book_waiting-requires
-book_waiting-requires c = (over-fits c.args.self.counts c.table-table.result.fault _ _ _ (number_is c.args.self.counts _ _ c.table-table.result.fault c.first-fault.ensures c.fault.ensures) c.count_unless-resting.ensures c.count_unless-waits.ensures, omega (arith, kept-fits _ _ _ _ c.execute_orders-kept.ensures))
+book_waiting-requires c = (over-fits c.args.self.counts c.table-table.result.fault _ _ _ (fault_is c.args.self.counts _ _ c.table-table.result.fault c.or-fault.ensures c.fault.ensures) c.unless_drawn-resting.ensures c.unless_drawn-waits.ensures, omega (arith, kept-fits _ _ _ _ c.execute_orders-kept.ensures))
 
 pub after-requires : goal.after-requires
-after-requires c z = logs-fit c.args.self.counts c.table-table.result.fault _ _ (number_is c.args.self.counts _ _ c.table-table.result.fault c.first-fault.ensures c.fault.ensures)
-    (omega (arith, kept-fits _ _ _ _ c.execute_orders-kept.ensures, c.count_unless-resting.ensures)) z
+after-requires c z = logs-fit c.args.self.counts c.table-table.result.fault _ _ (fault_is c.args.self.counts _ _ c.table-table.result.fault c.or-fault.ensures c.fault.ensures)
+    (omega (arith, kept-fits _ _ _ _ c.execute_orders-kept.ensures, c.unless_drawn-resting.ensures)) z
 
 pub returns : goal.returns
-returns c = done _ _ _ _ _ _ _ _ _ (number_is c.args.self.counts _ _ c.table-table.result.fault c.first-fault.ensures c.fault.ensures) c.count_unless-resting.ensures c.count_unless-waits.ensures
-    c.execute_orders-kept.ensures c.book_waiting.ensures c.after.ensures c.count_unless.ensures
+returns c = done _ _ _ _ _ _ _ _ _ (fault_is c.args.self.counts _ _ c.table-table.result.fault c.or-fault.ensures c.fault.ensures) c.unless_drawn-resting.ensures c.unless_drawn-waits.ensures
+    c.execute_orders-kept.ensures c.book_waiting.ensures c.after.ensures c.unless_drawn.ensures
     ∙ ap (tick_of _) c.table-table.ensures

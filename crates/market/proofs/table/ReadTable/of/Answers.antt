@@ -1,8 +1,10 @@
 -- `ReadTable::of` puts in the good rows, and keeps the number.
 use mathlib.Core.Path.{ap, ap₂, sym, subst, ◌∙◌}
-use Prim.Native.Nat.{ℕ, ◌<◌}
+use Prim.Native.Nat.{◌<◌}
 use mathlib.Core.List.{List, foldl}
 use Rattle.lists.specs.Lists.{All}
+use Rattle.std.specs.declared.option.Option.{Option}
+use Rattle.market.specs.declared.fault.Fault.{Fault}
 use Rattle.market.specs.Quotes.{row_tests, empty_table, put_row, faulted, table_of}
 use Rattle.market.specs.declared.quote.Quote.{Quote}
 use Rattle.market.specs.declared.table.Table.{Table}
@@ -19,4 +21,4 @@ pub returns : goal.returns
 unfolding table_of
 returns c =
     ap (λ (t : Table). faulted t c.of-read.result.fault) c.placed-table.ensures
-    ∙ ap₂ (λ (l : List Quote) (n : ℕ). faulted (foldl put_row empty_table l) n) c.of-read.ensures.good c.of-read.ensures.fault
+    ∙ ap₂ (λ (l : List Quote) (n : Option Fault). faulted (foldl put_row empty_table l) n) c.of-read.ensures.good c.of-read.ensures.fault

@@ -1,9 +1,9 @@
--- `call::of_words` meets its contract: a blank line and a malformed one are their verbs alone. Assumes nothing.
+-- `call::Words::of_verb` meets its contract: a blank line and a malformed one are their verbs alone. Assumes nothing.
 use mathlib.Core.Path.{refl, ◌∙◌}
 use mathlib.Core.Logic.{inl, inr}
 use Rattle.calls.specs.Calls.{said_as}
 use Rattle.calls.proofs.Calls.{plain-heard}
-use Rattle.calls.proofs.call.of_words.Goals as goal
+use Rattle.calls.proofs.call.Words.of_verb.Goals as goal
 
 pub returns-in-Blank : goal.returns-in-Blank
 unfolding said_as
