@@ -1,5 +1,6 @@
-// Cash in an account: credit, debit and forced debit move it in the account itself.
-// The functions below them open an account of some cash and move it there.
+// Cash in an account: credit, debit and forced debit move it in the account itself. The three functions
+// over a cash balance stand beside these methods, since document 01 names both: a core by value, and
+// after it a small account by `&mut`. They open an account of some cash and move it there.
 #![tactic(auto)]
 
 ghost use Rattle.std.specs.Fn.{FnOnceReturnsAtMut};
@@ -77,12 +78,12 @@ impl Account {
 }
 
 // Opens an account of this cash, and moves it there.
-fn on_account<F: FnOnce(&mut Account) -> BrokerCashEvent>(cash: f64, mv: F) -> Moved
-    requires { F.IsAlwaysCallable mv }
-    ensures { FnOnceReturnsAtMut F.FnOnce mv (record { cash = cash }) result.event (record { cash = result.cash }) }
+fn on_account<F: FnOnce(&mut Account) -> BrokerCashEvent>(cash: f64, by: F) -> Moved
+    requires { F.IsAlwaysCallable by }
+    ensures { FnOnceReturnsAtMut F.FnOnce by (record { cash = cash }) result.event (record { cash = result.cash }) }
 {
     let mut account = Account { cash };
-    let event = mv(&mut account);
+    let event = by(&mut account);
     Moved {
         cash: account.cash,
         event,

@@ -7,7 +7,8 @@ pub fn now(rt: &impl CpuClock) -> Option<u64> {
     u64::try_from(time.as_micros()).ok()
 }
 
-// The microseconds since then; 0 where the clock fails.
+// The microseconds since then; 0 where the clock fails, which a run's total of them is to count as
+// nothing.
 pub fn since(rt: &impl CpuClock, from: Option<u64>) -> u64 {
     match (from, now(rt)) {
         (Some(before), Some(after)) => after.saturating_sub(before),

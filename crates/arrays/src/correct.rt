@@ -11,7 +11,7 @@ use market::vendor_quote::VendorQuote;
 use vendor::correct::correct_quotes;
 
 // Corrects the first `n` of the vendor's rows, at most 1,100, to the first `room` places of a blank
-// table.
+// table. The caller's rows are read into an array of fixed size, so that a run needs no heap for them.
 pub fn correct_on(
     rows: &[VendorQuote; 1100],
     n: usize,

@@ -23,7 +23,8 @@ use market::trade::Trade;
 use market::weight::Weight;
 use std::time::CpuClock;
 
-// An answer, with the list that was lent.
+// An answer, with the list that was lent. Here and below a pair would be no plainer: its two parts would
+// have no names.
 #[derive(Clone, Copy)]
 pub struct Lent<A, L> {
     pub answer: A,
@@ -38,7 +39,8 @@ pub struct Timed<A> {
 }
 
 // The rows of a line's tables and weights, and the length of the lent list for events or orders. A
-// line's lists are read into arrays of fixed size, by value, so each count says how many rows were read.
+// line's lists are read into arrays of fixed size, so that a run needs no heap for them, and each count
+// says how many rows were read.
 #[derive(Clone, Copy)]
 pub struct Lists {
     pub tradable: [Quote; 512],
@@ -51,7 +53,7 @@ pub struct Lists {
 }
 
 // Orders, and the length of the lent list for their events. They are read into an array of fixed size,
-// by value, so the count says how many were read.
+// so that a run needs no heap for them, and the count says how many were read.
 #[derive(Clone, Copy)]
 pub struct Orders {
     pub list: [Order; 1024],
@@ -75,7 +77,10 @@ fn no_orders() -> [Order; 1024]
     [Order::blank(); 1024]
 }
 
-// Lends the first `room` places of an array to a call: its answer, with the array.
+// Lends the first `room` places of an array to a call: its answer, with the array. The array comes made:
+// of one that is made here of a blank entry, of any type, no proof was found that the places past the
+// lent ones stay. Where a call makes the blank entry, a function makes the array, for no proof of the
+// callers was found without it.
 fn lend<T: Copy, A, F: FnOnce(&mut [T]) -> A>(
     mut list: [T; 1024],
     room: usize,

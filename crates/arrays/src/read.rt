@@ -13,23 +13,11 @@ use market::quote::Quote;
 use reads::collected::Holding;
 use reads::uist;
 
-#[tactic(auto, unfolding(crate::specs::Reads::blank_positions))]
-fn no_positions() -> [u32; 1024]
-    ensures { result ≡ blank_positions }
-{
-    [0; 1024]
-}
-
-#[tactic(auto, unfolding(crate::specs::Reads::blank_holdings))]
-fn no_holdings() -> [Holding; 1024]
-    ensures { result ≡ blank_holdings }
-{
-    let h = Holding {
-        symbol: 0,
-        quantity: 0.0,
-    };
-    [h; 1024]
-}
+// What each place of an array of holdings holds before a read.
+const NO_HOLDING: Holding = Holding {
+    symbol: 0,
+    quantity: 0.0,
+};
 
 #[tactic(auto, unfolding(crate::specs::Reads::blank_quotes))]
 pub(crate) fn no_quotes() -> [Quote; 1024]
@@ -38,30 +26,26 @@ pub(crate) fn no_quotes() -> [Quote; 1024]
     [Quote::blank(); 1024]
 }
 
-#[tactic(auto, unfolding(crate::specs::Reads::blank_costs))]
-fn no_costs() -> [BrokerCost; 1024]
-    ensures { result ≡ blank_costs }
-{
-    [BrokerCost::Flat(0.0); 1024]
-}
-
+#[tactic(auto, unfolding(crate::specs::Reads::blank_positions))]
 pub fn positions_on(b: UistBroker, room: usize) -> Lent<Result<usize, Fault>, [u32; 1024]>
     ensures { ReadOn b (position_rows (money_of b.portfolio)) room blank_positions result.answer result.list }
 {
-    lend(no_positions(), room, |list| uist::get_positions(b, list))
+    lend([0; 1024], room, |list| uist::get_positions(b, list))
 }
 
+#[tactic(auto, unfolding(crate::specs::Reads::blank_holdings))]
 pub fn holdings_on(b: UistBroker, room: usize) -> Lent<Result<usize, Fault>, [Holding; 1024]>
     ensures { ReadOn b (holding_rows (money_of b.portfolio)) room blank_holdings result.answer result.list }
 {
-    lend(no_holdings(), room, |list| uist::get_holdings(b, list))
+    lend([NO_HOLDING; 1024], room, |list| uist::get_holdings(b, list))
 }
 
+#[tactic(auto, unfolding(crate::specs::Reads::blank_holdings))]
 pub fn pending_on(b: UistBroker, room: usize) -> Lent<Result<usize, Fault>, [Holding; 1024]>
     ensures { ReadOn b (pending_rows (money_of b.portfolio)) room blank_holdings result.answer result.list }
 {
     lend(
-        no_holdings(),
+        [NO_HOLDING; 1024],
         room,
         |list| uist::get_pending_orders(b, list),
     )
@@ -73,8 +57,13 @@ pub fn quotes_on(b: UistBroker, room: usize) -> Lent<Result<usize, Fault>, [Quot
     lend(no_quotes(), room, |list| uist::get_quotes(b, list))
 }
 
+#[tactic(auto, unfolding(crate::specs::Reads::blank_costs))]
 pub fn costs_on(b: UistBroker, room: usize) -> Lent<Result<usize, Fault>, [BrokerCost; 1024]>
     ensures { ReadOn b (cost_rows (money_of b.portfolio)) room blank_costs result.answer result.list }
 {
-    lend(no_costs(), room, |list| uist::get_trade_costs(b, list))
+    lend(
+        [BrokerCost::Flat(0.0); 1024],
+        room,
+        |list| uist::get_trade_costs(b, list),
+    )
 }

@@ -3,3 +3,4 @@ pub mod Sending
 pub mod Selling
 pub mod Settling
 pub mod Updating
+pub mod Building

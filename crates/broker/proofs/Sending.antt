@@ -23,18 +23,18 @@ use Rattle.market.specs.Quotes.{row_at}
 use Rattle.market.specs.declared.order.OrderType.TheVariants.{MarketSell}
 use Rattle.market.specs.declared.order.Order.{Order}
 use Rattle.market.specs.declared.quote.Quote.{Quote}
-use Rattle.market.proofs.Faults.{append-none, none-drawn, test-holds, unless-none}
-use Rattle.exchange.specs.State.{room_of, waiting_row}
+use Rattle.market.proofs.Faults.{append-none, none-drawn, test-holds}
+use Rattle.exchange.specs.State.{room_of}
 use Rattle.exchange.specs.Insert.{taken_one, join_of}
 use Rattle.exchange.specs.declared.state.Counts.{Counts}
-use Rattle.exchange.proofs.Counting.{Sound, room-facts, Free, join-book, join-counts}
+use Rattle.exchange.proofs.Counting.{Sound, room-facts, Free, joining, joins}
 use Rattle.floats.specs.Lots.{is_lot}
 use Rattle.sender.proofs.Sounding.{counts-sound, lot-sound, both-sound}
 use Rattle.broker.specs.Lender.{broken}
 use Rattle.rules.specs.Money.{unless_zero}
 use Rattle.rules.specs.Sends.{send_tests_at}
 use Rattle.portfolio.specs.State.{money_of}
-use Rattle.broker.specs.Send.{event_for, expecting, taken_by, sent_one, sent_all, events_of, no_events, SendsFit}
+use Rattle.broker.specs.Send.{event_for, taken_by, sent_one, sent_all, events_of, no_events, SendsFit}
 use Rattle.portfolio.specs.declared.state.Portfolio.{Portfolio}
 use Rattle.broker.specs.declared.state.UistBroker.{UistBroker}
 use Rattle.market.specs.declared.order.OrderEvent.{OrderEvent}
@@ -137,18 +137,9 @@ sent-all-fits = sent-all-keeps SendsFit taken-fits
 pub fits_here : (b : UistBroker) (o : Order) → SendsFit b.exchange.counts → (event_for b o).fault ≡ None → Free b.exchange.counts
 fits_here b o s z = one-fits b.exchange.counts s (room-drawn b o z)
 
--- what a taken order's step stores, at the place that the counts give
-pub takes : (b : UistBroker) (o : Order) → SendsFit b.exchange.counts → (event_for b o).fault ≡ None →
-    let j = join_of b.exchange.counts in
-    record {
-      exchange = record { book = set b.exchange.book j.at (waiting_row o); counts = j.counts };
-      portfolio = record { latest = b.portfolio.latest; funds = expecting b.portfolio.funds o; costs = b.portfolio.costs; lot = b.portfolio.lot };
-    } ≡ sent_one b o
-unfolding sent_one
-takes b o s z =
-    let e = b.exchange in
-    let free = fits_here b o s z in
-    rw (join-book e (join_of e.counts) refl free o (waiting_row o) refl, join-counts e (join_of e.counts) refl free) (unless-none (event_for b o).fault (taken_by b o) b z)
+-- and joins the orders that wait, at that place
+pub joins_here : (b : UistBroker) (o : Order) → SendsFit b.exchange.counts → (event_for b o).fault ≡ None → join_of b.exchange.counts ≡ Some (joining b.exchange.counts)
+joins_here b o s z = joins b.exchange.counts (fits_here b o s z)
 
 -- ---- the loops that send a list
 

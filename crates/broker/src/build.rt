@@ -1,5 +1,6 @@
 // The builder, and what a program keeps where no broker was made.
 ghost use Rattle.std.specs.Prelude.{◌≡◌};
+ghost use Rattle.std.specs.List.{list_all};
 ghost use Rattle.market.specs.Faults.{drawn};
 ghost use Rattle.costs.specs.Kept.{costs_of};
 ghost use Rattle.costs.specs.Costs.{is_finite};
@@ -23,8 +24,14 @@ fn is_finite(cost: BrokerCost) -> bool
     }
 }
 
+fn all_finite(costs: &[BrokerCost]) -> bool
+    ensures { result ≡ list_all is_finite costs.now }
+{
+    costs.iter().all(|cost| is_finite(*cost))
+}
+
 // 14, 17 for a lot outside its range, then 2 for a cost.
-#[tactic(auto, unfolding(market::specs::Faults::drawn))]
+#[tactic(auto, using(crate::proofs::Building::finite_drawn), unfolding(market::specs::Faults::drawn))]
 fn builder_fault(costs: TradeCosts, lot: u32) -> Option<Fault>
     ensures { result ≡ drawn (builder_tests costs.count lot (costs_of costs)) }
 {
@@ -34,16 +41,15 @@ fn builder_fault(costs: TradeCosts, lot: u32) -> Option<Fault>
     if !lot::is_lot(lot) {
         return Some(Fault::LotOutOfRange);
     }
-    for cost in costs.costs() {
-        if !is_finite(*cost) {
-            return Some(Fault::BadValue);
-        }
+    if !all_finite(costs.costs()) {
+        return Some(Fault::BadValue);
     }
     None
 }
 
 impl UistBroker {
-    // What a program keeps where no broker was made: every call of it draws 16.
+    // What a program keeps where no broker was made. It is a broker and no `Option`: every call of it
+    // draws 16 by itself, and no program has to test for a missing one.
     #[tactic(auto, unfolding(exchange::specs::State::fresh, crate::specs::Build::no_broker))]
     pub fn none() -> UistBroker
         ensures { result ≡ no_broker }

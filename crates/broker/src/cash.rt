@@ -58,6 +58,7 @@ impl UistBroker {
         }
     }
 
+    // As `deposit_cash`: each is one call of `move_cash`, which they share, and their contracts differ.
     #[tactic(auto, unfolding(market::specs::Faults::drawn, crate::specs::Cash::cash_refusal, crate::specs::Cash::cash_moved, crate::specs::Cash::withdraw_of, account::specs::Account::debit_of))]
     pub fn withdraw_cash(mut self, cash: f64) -> Told<BrokerCashEvent>
         ensures { MovesCash (withdraw_of self cash) (withdraw_tests self cash) cash result }

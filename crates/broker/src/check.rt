@@ -11,8 +11,9 @@ use portfolio::booking;
 
 // What a check comes to: the new state, the trades in the first `count` places, the log's row where
 // the first of them goes, how many sells it queued, and what was drawn. The trades stand in fixed
-// memory. A check that is refused answers the state too, so the refusal stands beside it, and this is
-// no `Result`.
+// memory, with their count: `ArrayVec` is no `Copy`, as this answer is. A check that is refused answers
+// the state too, so the refusal stands beside it, and this is no `Result`; it goes the same way through,
+// with count 0.
 #[derive(Clone, Copy)]
 pub struct Checked {
     pub broker: UistBroker,
@@ -59,7 +60,8 @@ impl UistBroker {
             .or(fetched.fault())
     }
 
-    // A check on tables that were read, for a log of this length.
+    // A check on tables that were read, for a log of this length. The two are passed apart: orders trade
+    // on the one, and the other becomes the latest quotes.
     #[tactic(auto, using(crate::proofs::Settling::tick_acts, crate::proofs::Settling::fits_ticked, crate::proofs::Settling::listed_trades), unfolding(crate::specs::Check::checked_by))]
     pub fn check(mut self, tradable: ReadTable, fetched: ReadTable, log_length: usize) -> Checked
         ensures { Checks self tradable.table fetched.table log_length result }

@@ -97,7 +97,7 @@ impl UistBroker {
         ok_unless(self.fault(), self.portfolio.funds.cash)
     }
 
-    // Ready or Failed, which is told with 16 too.
+    // Ready or Failed, which is told with 16 too: a `Result` would promise less.
     pub fn get_broker_state(self) -> After<BrokerState>
         ensures { ReadsState self.portfolio.funds.failed (broker_fault self) result }
     {

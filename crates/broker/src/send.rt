@@ -10,6 +10,8 @@ use market::order::{Order, OrderEvent};
 use sender;
 use sender::AtSymbol;
 
+// What the places for events hold before they are written. No such place is read, since the count says
+// how many are events; they are no `Option`s, as they are stored in a lent list of events as they stand.
 #[tactic(auto, unfolding(crate::specs::Send::no_events))]
 pub(crate) fn no_events() -> [OrderEvent; 256]
     ensures { result ≡ no_events }
@@ -21,9 +23,10 @@ pub(crate) fn no_events() -> [OrderEvent; 256]
 impl UistBroker {
     // Sends one order: where it is taken it waits on the exchange, and pending moves. It works in
     // place and is inlined, since a broker by value would be copied at each order, and at a call that
-    // is not inlined once more. `SendsFit` is asked for and is no type's invariant: whoever made a
-    // value of that type would have to prove it just the same.
-    #[tactic(auto, using(crate::proofs::Sending::event_here, crate::proofs::Sending::fits_here, crate::proofs::Sending::takes), unfolding(crate::specs::Send::sent_one, exchange::specs::Insert::join_of))]
+    // is not inlined once more. `SendsFit` is asked for: five functions of this crate ask it of each
+    // other, and none outside is asked. A type with that invariant would have to prove it at each
+    // change of the state.
+    #[tactic(auto, using(crate::proofs::Sending::event_here, crate::proofs::Sending::fits_here, crate::proofs::Sending::joins_here), unfolding(crate::specs::Send::sent_one))]
     #[inline(always)]
     fn send_one(&mut self, o: Order) -> OrderEvent
         requires { SendsFit self.old.exchange.counts }
@@ -42,11 +45,12 @@ impl UistBroker {
         if e.fault.is_some() {
             return e;
         }
-        let join = counts.join();
-        self.exchange.book[join.at] = Booked::waiting(o);
-        self.exchange.counts = join.counts;
-        let pending = sender::pending_after(o, self.portfolio.funds.pending[at]);
-        self.portfolio.funds.pending[at] = Some(pending);
+        if let Some(join) = counts.join() {
+            self.exchange.book[join.at] = Booked::waiting(o);
+            self.exchange.counts = join.counts;
+            let pending = sender::pending_after(o, self.portfolio.funds.pending[at]);
+            self.portfolio.funds.pending[at] = Some(pending);
+        }
         e
     }
 

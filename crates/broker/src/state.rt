@@ -8,7 +8,8 @@ pub struct UistBroker {
     pub portfolio: Portfolio,
 }
 
-// The broker after a call, and the event that tells of the call: of an order, or of cash.
+// The broker after a call, and the event that tells of the call: of an order, or of cash. A refusal is
+// in the event, with the order or the amount, so this is no `Result`.
 #[derive(Clone, Copy)]
 pub struct Told<E> {
     pub broker: UistBroker,

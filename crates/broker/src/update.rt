@@ -22,8 +22,9 @@ pub struct Lengths {
 
 // What an update comes to: the new state; the trades in the first `count` places, and the log's row
 // where the first of them goes; the events in the first `sent` places; the total value; and
-// what was drawn. With 13 or 18 the check stands. Trades and events stand in fixed memory. An update
-// that is refused answers the state too, so the refusal stands beside it, and this is no `Result`.
+// what was drawn. With 13 or 18 the check stands. Trades and events stand in fixed memory, with their
+// counts: `ArrayVec` is no `Copy`, as this answer is. An update that is refused answers the state too,
+// so the refusal stands beside it, and this is no `Result`; what it does not come to has count 0.
 #[derive(Clone, Copy)]
 pub struct Updated {
     pub broker: UistBroker,

@@ -1,4 +1,5 @@
 // The walk over weights alone, with what it draws.
+ghost use Rattle.std.specs.Prelude.{◌≤◌, IfOk};
 ghost use Rattle.broker.specs.Walk.{Walks};
 
 use crate::state::UistBroker;
@@ -15,7 +16,8 @@ impl UistBroker {
         rows: usize,
         room: usize,
     ) -> Result<OrderList, Fault>
-        ensures { Walks self weights rows room result }
+        ensures plan { Walks self weights rows room result }
+        ensures few { IfOk result (λ list. list.count ≤ 256) }
     {
         if let Some(fault) = self.lender_fault(rows, room).or(weights.fault()) {
             return Err(fault);

@@ -17,7 +17,7 @@ use Rattle.calls.specs.declared.call.Call.{Call}
 use Rattle.calls.specs.declared.verb.Verb.{Verb}
 use Rattle.calls.specs.declared.verb.Verb.TheVariants.{Malformed}
 use Rattle.calls.specs.Verbs.{verb_of}
-use Rattle.calls.specs.Lists.{is_empty, first_of, rest_of, only_of, first_words, words_in}
+use Rattle.calls.specs.Lists.{is_empty, first_of, rest_of, first_words, words_in}
 use Rattle.calls.specs.Calls.{Said, plainly, said_if, heard, heard_or, plain_call, said_as, said, side_said, side_named, Lotted, said_built}
 
 -- ---- a form is met, or it is not
@@ -53,13 +53,6 @@ end-by ((x ∷ w) ∷ ws) h = ne_eqb (suc (length w)) 0 (λ q. omega arith)
 
 pub end_of : (l w : List ℕ) → w ≡ first_of (words_of l) → eqb (length w) 0 ≡ is_empty (words_of l)
 end_of l w e = ap (λ (v : List ℕ). eqb (length v) 0) e ∙ end-by (words_of l) (no-first l)
-
--- the only word: the first one where no other is left
-pub only-by : (l : List ℕ) {t : Bool} {w : List ℕ} {b : Bool} (m : List ℕ) → w ≡ first_of (words_of l) → words_of m ≡ rest_of (words_of l) → t ≡ is_empty (words_of m) → t ≡ b → cond b w [] ≡ only_of (words_of l)
-unfolding only_of
-only-by l {t = t} {w = w} {b = b} m e f g h =
-    ap (λ (v : List ℕ). cond b v []) e
-    ∙ ap (λ (u : Bool). cond u (first_of (words_of l)) []) (sym h ∙ g ∙ ap is_empty f)
 
 -- a side by its names
 pub side-is : (v : Verb) (budget price : Float) {w u : List ℕ} → w ≡ u → {buys sells : Bool} → buys ≡ same_bytes w (ascii "buy") → sells ≡ same_bytes w (ascii "sell") → side_said v budget price buys sells ≡ side_named v budget price u

@@ -20,7 +20,6 @@ use Rattle.words.specs.Words.{words_of, same_bytes}
 use Rattle.words.proofs.Words.{no-first}
 use Rattle.costs.specs.Kept.{no_costs}
 use Rattle.costs.specs.declared.TradeCosts.{TradeCosts}
-use Rattle.calls.specs.declared.list.RowKind.{RowKind}
 use Rattle.calls.specs.Lists.{Words, Listed, first_of, rest_of, first_words, is_slash, until_slash, has_slash, behind_slash, is_row, are_rows, list_of, words_in, spanned, cost_step, read_costs}
 
 -- ---- the first words
@@ -45,13 +44,13 @@ and-false true = refl
 and-false false = refl
 
 -- ---- a list whose words ks were passed, with the words ws left
-module _ (kind : RowKind) (most : ℕ) (before : Bool) where
+module _ {A : Type 0} (row : List ℕ → Option A) (most : ℕ) (before : Bool) where
   unfoldable pub after : Words → Words → Option Listed
   after ks ws =
-      some_if (are_rows kind (until_slash ws) && leb (length ks + length (until_slash ws)) most && beq (has_slash ws) before)
+      some_if (are_rows row (until_slash ws) && leb (length ks + length (until_slash ws)) most && beq (has_slash ws) before)
       (record { words = ks ++ until_slash ws; behind = behind_slash ws })
 
-  at_first : (ws : Words) → after [] ws ≡ list_of kind most before ws
+  at_first : (ws : Words) → after [] ws ≡ list_of row most before ws
   unfolding list_of after
   at_first ws = rw (zero-add (length (until_slash ws)))
 
@@ -71,28 +70,28 @@ module _ (kind : RowKind) (most : ℕ) (before : Bool) where
           rw (
             e,
             lt-leb (length ks + suc (length (until_slash ws))) most (omega arith),
-            and-false (is_row kind w && are_rows kind (until_slash ws)),
+            and-false (is_row row w && are_rows row (until_slash ws)),
           )
 
-      no_row : is_slash w ≡ false → is_row kind w ≡ false → None ≡ after ks (w ∷ ws)
+      no_row : is_slash w ≡ false → is_row row w ≡ false → None ≡ after ks (w ∷ ws)
       unfolding after until_slash has_slash behind_slash are_rows
       no_row e h = rw (e, h)
 
-      one_more : is_slash w ≡ false → is_row kind w ≡ true → after (ks ++ (w ∷ [])) ws ≡ after ks (w ∷ ws)
+      one_more : is_slash w ≡ false → is_row row w ≡ true → after (ks ++ (w ∷ [])) ws ≡ after ks (w ∷ ws)
       unfolding after until_slash has_slash behind_slash are_rows
       one_more e h =
           let q : length (ks ++ (w ∷ [])) + length (until_slash ws) ≡ length ks + suc (length (until_slash ws)) = omega (arith, length-append ks (w ∷ [])) in
           rw (e, h, append_assoc ks (w ∷ []) (until_slash ws), q)
 
 -- the words of a list that were passed, up to a place of the line
-pub record Passed (line : List ℕ) (at : ℕ) (kind : RowKind) (most : ℕ) (before : Bool) (i count : ℕ) : Type 0 where
+pub record Passed (line : List ℕ) (at : ℕ) {A : Type 0} (row : List ℕ → Option A) (most : ℕ) (before : Bool) (i count : ℕ) : Type 0 where
   pub few : count ≤ most
   pub left : words_of (drop i line) ≡ drop count (words_of (drop at line))
-  pub same : after kind most before (first_words count (words_of (drop at line))) (words_of (drop i line)) ≡ list_of kind most before (words_of (drop at line))
+  pub same : after row most before (first_words count (words_of (drop at line))) (words_of (drop i line)) ≡ list_of row most before (words_of (drop at line))
 
-pub none_passed : (line : List ℕ) (at : ℕ) (kind : RowKind) (most : ℕ) (before : Bool) → Passed line at kind most before at 0
+pub none_passed : (line : List ℕ) (at : ℕ) {A : Type 0} (row : List ℕ → Option A) (most : ℕ) (before : Bool) → Passed line at row most before at 0
 unfolding first_words
-none_passed line at kind most before = record { few = omega arith; left = refl; same = at_first kind most before (words_of (drop at line)) }
+none_passed line at row most before = record { few = omega arith; left = refl; same = at_first row most before (words_of (drop at line)) }
 
 or-false : (t v : Bool) → (t || v) ≡ false → (t ≡ false) × (v ≡ false)
 or-false true v e = let z : ◌≡◌ {A = ℕ} 0 1 = cc in let bad : ⊥ = omega arith in absurd bad
@@ -119,7 +118,7 @@ some-first [] h = absurd (h refl)
 some-first (w ∷ ws) h = refl
 
 -- w is the first of the words at i, and the others stand at `next`
-module _ (line : List ℕ) (at : ℕ) (kind : RowKind) (most : ℕ) (before : Bool) (i count : ℕ) (p : Passed line at kind most before i count) {w : List ℕ} (next : ℕ) (e : w ≡ first_of (words_of (drop i line))) (f : words_of (drop next line) ≡ rest_of (words_of (drop i line))) (slash : Bool) (s : slash ≡ is_slash w) where
+module _ (line : List ℕ) (at : ℕ) {A : Type 0} (row : List ℕ → Option A) (most : ℕ) (before : Bool) (i count : ℕ) (p : Passed line at row most before i count) {w : List ℕ} (next : ℕ) (e : w ≡ first_of (words_of (drop i line))) (f : words_of (drop next line) ≡ rest_of (words_of (drop i line))) (slash : Bool) (s : slash ≡ is_slash w) where
   abbrev ks : Words
   ks = first_words count (words_of (drop at line))
 
@@ -139,33 +138,33 @@ module _ (line : List ℕ) (at : ℕ) (kind : RowKind) (most : ℕ) (before : Bo
       ∙ ap (λ (vs : Words). w ∷ vs) (sym f)
 
   -- the list ends here: no word is left, or the word is a slash
-  at-line-end : w ≡ [] → ended slash (words_of (drop next line)) ≡ list_of kind most before (words_of (drop at line))
+  at-line-end : w ≡ [] → ended slash (words_of (drop next line)) ≡ list_of row most before (words_of (drop at line))
   at-line-end h =
       ap (λ (b : Bool). ended b (words_of (drop next line))) (s ∙ ap is_slash h ∙ not-slash)
       ∙ ap (ended false) (f ∙ ap rest_of (none h))
-      ∙ no_more kind most before ks (omega (arith, size, p.few))
-      ∙ ap (after kind most before ks) (sym (none h))
+      ∙ no_more row most before ks (omega (arith, size, p.few))
+      ∙ ap (after row most before ks) (sym (none h))
       ∙ p.same
 
-  at-a-slash : slash ≡ true → 0 < length w → ended slash (words_of (drop next line)) ≡ list_of kind most before (words_of (drop at line))
+  at-a-slash : slash ≡ true → 0 < length w → ended slash (words_of (drop next line)) ≡ list_of row most before (words_of (drop at line))
   at-a-slash t h =
       ap (λ (b : Bool). ended b (words_of (drop next line))) t
-      ∙ at-slash kind most before ks w (words_of (drop next line)) (sym s ∙ t) (omega (arith, size, p.few))
-      ∙ ap (after kind most before ks) (sym (some h))
+      ∙ at-slash row most before ks w (words_of (drop next line)) (sym s ∙ t) (omega (arith, size, p.few))
+      ∙ ap (after row most before ks) (sym (some h))
       ∙ p.same
 
-  ends : (slash || eqb (length w) 0) ≡ true → ended slash (words_of (drop next line)) ≡ list_of kind most before (words_of (drop at line))
+  ends : (slash || eqb (length w) 0) ≡ true → ended slash (words_of (drop next line)) ≡ list_of row most before (words_of (drop at line))
   ends t =
       ⊎_elim at-line-end
       (λ h. at-a-slash (or-true slash (eqb (length w) 0) t (ne_eqb (length w) 0 (λ q. omega arith))) h)
       (nil-or w)
 
   -- as it should, or not
-  pub ends-well : (slash || eqb (length w) 0) ≡ true → beq slash before ≡ true → spanned line (Some (record { at = at; count = count; next = next })) ≡ list_of kind most before (words_of (drop at line))
+  pub ends-well : (slash || eqb (length w) 0) ≡ true → beq slash before ≡ true → spanned line (Some (record { at = at; count = count; next = next })) ≡ list_of row most before (words_of (drop at line))
   unfolding spanned words_in
   ends-well t b = ap (λ (u : Bool). some_if u (record { words = ks; behind = words_of (drop next line) })) (sym b) ∙ ends t
 
-  pub ends-ill : (slash || eqb (length w) 0) ≡ true → beq slash before ≡ false → None ≡ list_of kind most before (words_of (drop at line))
+  pub ends-ill : (slash || eqb (length w) 0) ≡ true → beq slash before ≡ false → None ≡ list_of row most before (words_of (drop at line))
   ends-ill t b = ap (λ (u : Bool). some_if u (record { words = ks; behind = words_of (drop next line) })) (sym b) ∙ ends t
 
   -- another word is here
@@ -184,31 +183,31 @@ module _ (line : List ℕ) (at : ℕ) (kind : RowKind) (most : ℕ) (before : Bo
     pub fewer : length (words_of (drop next line)) < length (words_of (drop i line))
     fewer = omega (arith, ap length here)
 
-    pub many : most ≤ count → None ≡ list_of kind most before (words_of (drop at line))
+    pub many : most ≤ count → None ≡ list_of row most before (words_of (drop at line))
     many h =
-        too_many kind most before ks w (words_of (drop next line)) no_slash (omega (arith, size))
-        ∙ ap (after kind most before ks) (sym here)
+        too_many row most before ks w (words_of (drop next line)) no_slash (omega (arith, size))
+        ∙ ap (after row most before ks) (sym here)
         ∙ p.same
 
-    pub unfit : is_row kind w ≡ false → None ≡ list_of kind most before (words_of (drop at line))
+    pub unfit : is_row row w ≡ false → None ≡ list_of row most before (words_of (drop at line))
     unfit h =
-        no_row kind most before ks w (words_of (drop next line)) no_slash h
-        ∙ ap (after kind most before ks) (sym here)
+        no_row row most before ks w (words_of (drop next line)) no_slash h
+        ∙ ap (after row most before ks) (sym here)
         ∙ p.same
 
     first-here : first_of (drop count (words_of (drop at line))) ≡ w
     first-here = ap first_of (sym p.left) ∙ sym e
 
-    pub passed-more : count < most → is_row kind w ≡ true → Passed line at kind most before next (count + 1)
+    pub passed-more : count < most → is_row row w ≡ true → Passed line at row most before next (count + 1)
     passed-more h q =
         record {
           few = omega arith;
           left = f ∙ ap rest_of p.left ∙ drop-drop 1 count (words_of (drop at line));
           same =
-              ap (λ (vs : Words). after kind most before vs (words_of (drop next line)))
+              ap (λ (vs : Words). after row most before vs (words_of (drop next line)))
               (first_more count (words_of (drop at line)) ∙ ap (λ (w : List ℕ). ks ++ (w ∷ [])) first-here)
-              ∙ one_more kind most before ks w (words_of (drop next line)) no_slash q
-              ∙ ap (after kind most before ks) (sym here)
+              ∙ one_more row most before ks w (words_of (drop next line)) no_slash q
+              ∙ ap (after row most before ks) (sym here)
               ∙ p.same;
         }
 

@@ -11,8 +11,7 @@ use Rattle.market.specs.declared.weight.Weight.{Weight}
 use Rattle.costs.specs.declared.BrokerCost.{BrokerCost}
 use Rattle.words.specs.Words.{same_bytes, ascii}
 use Rattle.words.specs.Numbers.{some_if, whole_of, symbol_of, float_of}
-use Rattle.rows.specs.Rows.{order_of, lot_of}
-use Rattle.calls.specs.declared.list.RowKind.TheVariants.{Cost, Order as OrderRow, Quote as QuoteRow, Weight as WeightRow, Vendor as VendorRow}
+use Rattle.rows.specs.Rows.{order_of, quote_of, vendor_of, weight_of, cost_of, lot_of}
 use Rattle.calls.specs.declared.list.Span.{Span}
 use Rattle.calls.specs.declared.call.Call.{Call}
 use Rattle.calls.specs.declared.verb.Verb.{Verb}
@@ -80,23 +79,23 @@ said_alone v ws = said_if (is_empty ws) (plainly v)
 
 -- WHOLE
 unfoldable pub said_whole : Verb → Words → Said
-said_whole v ws = formed (whole_of (only_of ws)) (λ n. saying v 0 n 0 0 no_rows)
+said_whole v ws = formed (only_of ws) (λ w. formed (whole_of w) (λ n. saying v 0 n 0 0 no_rows))
 
 -- LOG
 unfoldable pub said_log : Verb → Words → Said
-said_log v ws = formed (whole_of (only_of ws)) (λ n. saying v n 0 0 0 no_rows)
+said_log v ws = formed (only_of ws) (λ w. formed (whole_of w) (λ n. saying v n 0 0 0 no_rows))
 
 -- SYMBOL
 unfoldable pub said_symbol : Verb → Words → Said
-said_symbol v ws = formed (symbol_of (only_of ws)) (λ symbol. saying v 0 0 symbol 0 no_rows)
+said_symbol v ws = formed (only_of ws) (λ w. formed (symbol_of w) (λ symbol. saying v 0 0 symbol 0 no_rows))
 
 -- FLOAT
 unfoldable pub said_amount : Verb → Words → Said
-said_amount v ws = formed (float_of (only_of ws)) (λ x. amounting v x zero64 false)
+said_amount v ws = formed (only_of ws) (λ w. formed (float_of w) (λ x. amounting v x zero64 false))
 
 -- ORDER
 unfoldable pub said_order : Verb → Words → Said
-said_order v ws = formed (order_of (only_of ws)) (λ order. ordering v order)
+said_order v ws = formed (only_of ws) (λ w. formed (order_of w) (λ order. ordering v order))
 
 -- ROOM: a WHOLE, at most 1,024
 abbrev pub room_from : Option ℕ → Option ℕ
@@ -107,7 +106,7 @@ unfoldable pub room_of : List ℕ → Option ℕ
 room_of w = room_from (whole_of w)
 
 unfoldable pub said_room : Verb → Words → Said
-said_room v ws = formed (room_of (only_of ws)) (λ room. saying v 0 0 0 room no_rows)
+said_room v ws = formed (only_of ws) (λ w. formed (room_of w) (λ room. saying v 0 0 0 room no_rows))
 
 -- ---- two words or three
 
@@ -115,8 +114,9 @@ said_room v ws = formed (room_of (only_of ws)) (λ room. saying v 0 0 0 room no_
 unfoldable pub said_quantity : Verb → Words → Said
 said_quantity v ws =
     formed (float_of (first_of ws)) (λ quantity.
-    formed (float_of (only_of (rest_of ws))) (λ value.
-    amounting v quantity value false))
+    formed (only_of (rest_of ws)) (λ w.
+    formed (float_of w) (λ value.
+    amounting v quantity value false)))
 
 -- BUDGET PRICE, and `buy` or `sell`
 abbrev pub side_said : Verb → Float → Float → Bool → Bool → Said
@@ -129,7 +129,7 @@ unfoldable pub said_side : Verb → Words → Said
 said_side v ws =
     formed (float_of (first_of ws)) (λ budget.
     formed (float_of (first_of (rest_of ws))) (λ price.
-    side_named v budget price (only_of (rest_of (rest_of ws)))))
+    formed (only_of (rest_of (rest_of ws))) (side_named v budget price)))
 
 -- ---- lists: a slash ends each but the last
 
@@ -145,8 +145,8 @@ lot_at ws = given (lot_of (first_of ws)) (record { lot = 1; behind = ws }) (λ n
 -- LOG lot:LOT COST* / QUOTE*, where the lot may be left out: what stands behind LOG, and all of it
 abbrev pub said_built : Verb → ℕ → Lotted → Said
 said_built v log lotted =
-    formed (list_of Cost 32 true lotted.behind) (λ costs.
-    formed (list_of QuoteRow 512 false costs.behind) (λ first.
+    formed (list_of cost_of 32 true lotted.behind) (λ costs.
+    formed (list_of quote_of 512 false costs.behind) (λ first.
     lotting v log lotted.lot (record { costs = map cost_or_blank costs.words; first = map quote_or_blank first.words; fetched = []; weights = []; orders = []; vendors = [] })))
 
 unfoldable pub said_new : Verb → Words → Said
@@ -155,38 +155,38 @@ said_new v ws = formed (whole_of (first_of ws)) (λ log. said_built v log (lot_a
 -- QUOTE* / QUOTE*: the tradable table, then the fetched one
 unfoldable pub said_check : Verb → Words → Said
 said_check v ws =
-    formed (list_of QuoteRow 512 true ws) (λ first.
-    formed (list_of QuoteRow 512 false first.behind) (λ fetched.
+    formed (list_of quote_of 512 true ws) (λ first.
+    formed (list_of quote_of 512 false first.behind) (λ fetched.
     saying v 0 0 0 0 (record { costs = []; first = map quote_or_blank first.words; fetched = map quote_or_blank fetched.words; weights = []; orders = []; vendors = [] })))
 
 -- ROOM WEIGHT*
 unfoldable pub said_walk : Verb → Words → Said
 said_walk v ws =
     formed (room_of (first_of ws)) (λ room.
-    formed (list_of WeightRow 512 false (rest_of ws)) (λ weights.
+    formed (list_of weight_of 512 false (rest_of ws)) (λ weights.
     saying v 0 0 0 room (record { costs = []; first = []; fetched = []; weights = map weight_or_blank weights.words; orders = []; vendors = [] })))
 
 -- ROOM ORDER*
 unfoldable pub said_orders : Verb → Words → Said
 said_orders v ws =
     formed (room_of (first_of ws)) (λ room.
-    formed (list_of OrderRow 1024 false (rest_of ws)) (λ orders.
+    formed (list_of order_of 1024 false (rest_of ws)) (λ orders.
     saying v 0 0 0 room (record { costs = []; first = []; fetched = []; weights = []; orders = map order_or_blank orders.words; vendors = [] })))
 
 -- ROOM VENDOR*
 unfoldable pub said_correct : Verb → Words → Said
 said_correct v ws =
     formed (room_of (first_of ws)) (λ room.
-    formed (list_of VendorRow 1100 false (rest_of ws)) (λ vendors.
+    formed (list_of vendor_of 1100 false (rest_of ws)) (λ vendors.
     saying v 0 0 0 room (record { costs = []; first = []; fetched = []; weights = []; orders = []; vendors = map vendor_or_blank vendors.words })))
 
 -- ROOM QUOTE* / QUOTE* / WEIGHT*
 unfoldable pub said_update : Verb → Words → Said
 said_update v ws =
     formed (room_of (first_of ws)) (λ room.
-    formed (list_of QuoteRow 512 true (rest_of ws)) (λ first.
-    formed (list_of QuoteRow 512 true first.behind) (λ fetched.
-    formed (list_of WeightRow 512 false fetched.behind) (λ weights.
+    formed (list_of quote_of 512 true (rest_of ws)) (λ first.
+    formed (list_of quote_of 512 true first.behind) (λ fetched.
+    formed (list_of weight_of 512 false fetched.behind) (λ weights.
     saying v 0 0 0 room (record { costs = []; first = map quote_or_blank first.words; fetched = map quote_or_blank fetched.words; weights = map weight_or_blank weights.words; orders = []; vendors = [] })))))
 
 -- ---- the form of each verb

@@ -20,8 +20,6 @@ use Rattle.costs.specs.declared.TradeCosts.{TradeCosts}
 use Rattle.words.specs.Numbers.{some_if}
 use Rattle.words.specs.Words.{words_of, same_bytes, ascii}
 use Rattle.rows.specs.Rows.{order_of, quote_of, vendor_of, weight_of, cost_of}
-use Rattle.calls.specs.declared.list.RowKind.{RowKind}
-use Rattle.calls.specs.declared.list.RowKind.TheVariants.{Cost, Order as OrderRow, Quote as QuoteRow, Weight as WeightRow, Vendor as VendorRow}
 use Rattle.calls.specs.declared.list.Span.{Span}
 
 abbrev pub Words : Type 0
@@ -38,9 +36,9 @@ abbrev pub is_empty : Words → Bool
 is_empty [] = true
 is_empty (w ∷ ws) = false
 
--- the word where there is just one; else the empty one, which is of no form
-unfoldable pub only_of : Words → List ℕ
-only_of ws = cond (is_empty (rest_of ws)) (first_of ws) []
+-- the first word where no other is behind it: the empty one, which is of no form, where there is none
+unfoldable pub only_of : Words → Option (List ℕ)
+only_of ws = some_if (is_empty (rest_of ws)) (first_of ws)
 
 -- the first n words; empty ones stand where there are fewer
 unfoldable pub first_words : ℕ → Words → Words
@@ -67,17 +65,13 @@ unfoldable pub behind_slash : Words → Words
 behind_slash [] = []
 behind_slash (w ∷ ws) = cond (is_slash w) ws (behind_slash ws)
 
--- is the word a row of this kind?
-unfoldable pub is_row : RowKind → List ℕ → Bool
-is_row Cost w = is_some (cost_of w)
-is_row OrderRow w = is_some (order_of w)
-is_row QuoteRow w = is_some (quote_of w)
-is_row WeightRow w = is_some (weight_of w)
-is_row VendorRow w = is_some (vendor_of w)
+-- is the word a row, and is each of the words? A reader of words says what a row is.
+unfoldable pub is_row : {A : Type 0} → (List ℕ → Option A) → List ℕ → Bool
+is_row f w = is_some (f w)
 
-unfoldable pub are_rows : RowKind → Words → Bool
-are_rows kind [] = true
-are_rows kind (w ∷ ws) = is_row kind w && are_rows kind ws
+unfoldable pub are_rows : {A : Type 0} → (List ℕ → Option A) → Words → Bool
+are_rows f [] = true
+are_rows f (w ∷ ws) = is_row f w && are_rows f ws
 
 -- ---- a list at the head of some words
 
@@ -86,10 +80,10 @@ pub record Listed : Type 0 where
   pub words : Words
   pub behind : Words
 
--- a list of at most so many rows of a kind, before a slash or, with `before` false, at the line's end
-unfoldable pub list_of : RowKind → ℕ → Bool → Words → Option Listed
-list_of kind most before ws =
-    some_if (are_rows kind (until_slash ws) && leb (length (until_slash ws)) most && beq (has_slash ws) before)
+-- a list of at most so many rows by f, before a slash or, with `before` false, at the line's end
+unfoldable pub list_of : {A : Type 0} → (List ℕ → Option A) → ℕ → Bool → Words → Option Listed
+list_of f most before ws =
+    some_if (are_rows f (until_slash ws) && leb (length (until_slash ws)) most && beq (has_slash ws) before)
     (record { words = until_slash ws; behind = behind_slash ws })
 
 -- the words of a span of a line

@@ -3,17 +3,23 @@
 #![tactic(auto, unfolding(crate::specs::Calls::room_of, crate::specs::Calls::said_if, crate::specs::Calls::lot_at, crate::specs::Calls::said_alone, crate::specs::Calls::said_whole, crate::specs::Calls::said_log, crate::specs::Calls::said_symbol, crate::specs::Calls::said_amount, crate::specs::Calls::said_order, crate::specs::Calls::said_room, crate::specs::Calls::said_quantity, crate::specs::Calls::said_side, crate::specs::Calls::said_new, crate::specs::Calls::said_check, crate::specs::Calls::said_walk, crate::specs::Calls::said_orders, crate::specs::Calls::said_correct, crate::specs::Calls::said_update, crate::specs::Calls::heard, crate::specs::Calls::plain_call, crate::specs::Lists::only_of, crate::specs::Lists::words_in, crate::specs::Lists::first_words, crate::specs::Lists::spanned))]
 
 ghost use Rattle.std.specs.Prelude.{◌≡◌, drop};
+ghost use Rattle.std.specs.Option.{option_copied};
 ghost use Rattle.words.specs.Words.{words_of};
 ghost use Rattle.calls.specs.Lists.{is_empty, only_of};
 ghost use Rattle.calls.specs.Calls.{no_span, plain_call, heard, heard_or, said, lot_at, room_of, said_alone, said_whole, said_log, said_symbol, said_amount, said_order, said_room, said_quantity, said_side, said_new, said_check, said_walk, said_orders, said_correct, said_update, said_as};
 
-use crate::list::{RowKind, Span};
+use crate::list::Span;
 use crate::verb::Verb;
 use crate::{list, verb};
+use costs::BrokerCost;
 use market::order::Order;
+use market::quote::Quote;
+use market::vendor_quote::VendorQuote;
+use market::weight::Weight;
 use words::{number, word};
 
-// What a line asks for. What its verb does not use is 0.
+// What a line asks for. What its verb does not use is 0. No enum with a case for each verb: one reader
+// serves up to six verbs, and the contract says field by field what a line says.
 #[derive(Clone, Copy)]
 pub struct Call {
     pub verb: Verb,
@@ -35,6 +41,7 @@ pub struct Call {
     pub vendors: Span,
 }
 
+// (`Default` would be the same under another name than the definition's.)
 fn no_span() -> Span
     ensures { result ≡ no_span }
 {
@@ -96,13 +103,12 @@ impl<'a> Words<'a> {
         w.is_empty()
     }
 
-    // The first word where it is the line's last, else an empty one.
-    fn only(self) -> &'a [u8]
-        ensures { result.now ≡ only_of (words_of (drop self.entry.at self.entry.line.now)) }
+    // The first word where it is the line's last.
+    fn only(self) -> Option<&'a [u8]>
+        ensures { option_copied result ≡ only_of (words_of (drop self.entry.at self.entry.line.now)) }
     {
         let (w, next) = word::first_at(self.line, self.at);
-        let rest = Words { at: next, ..self };
-        if rest.is_end() { w } else { &[] }
+        Words { at: next, ..self }.is_end().then_some(w)
     }
 
     // A new broker's lot, which is 1 where the word is none, and where the words behind it are looked
@@ -130,7 +136,7 @@ impl<'a> Words<'a> {
     fn with_whole(self, verb: Verb) -> Option<Call>
         ensures { heard_or self.entry.line.now result ≡ said_whole verb (words_of (drop self.entry.at self.entry.line.now)) }
     {
-        let whole = number::whole(self.only())?;
+        let whole = number::whole(self.only()?)?;
         Some(Call {
             whole,
             ..plain(verb)
@@ -140,14 +146,14 @@ impl<'a> Words<'a> {
     fn with_log(self, verb: Verb) -> Option<Call>
         ensures { heard_or self.entry.line.now result ≡ said_log verb (words_of (drop self.entry.at self.entry.line.now)) }
     {
-        let log = number::whole(self.only())?;
+        let log = number::whole(self.only()?)?;
         Some(Call { log, ..plain(verb) })
     }
 
     fn with_symbol(self, verb: Verb) -> Option<Call>
         ensures { heard_or self.entry.line.now result ≡ said_symbol verb (words_of (drop self.entry.at self.entry.line.now)) }
     {
-        let symbol = number::symbol(self.only())?;
+        let symbol = number::symbol(self.only()?)?;
         Some(Call {
             symbol,
             ..plain(verb)
@@ -157,7 +163,7 @@ impl<'a> Words<'a> {
     fn with_amount(self, verb: Verb) -> Option<Call>
         ensures { heard_or self.entry.line.now result ≡ said_amount verb (words_of (drop self.entry.at self.entry.line.now)) }
     {
-        let amount = number::float(self.only())?;
+        let amount = number::float(self.only()?)?;
         Some(Call {
             amount,
             ..plain(verb)
@@ -167,7 +173,7 @@ impl<'a> Words<'a> {
     fn with_order(self, verb: Verb) -> Option<Call>
         ensures { heard_or self.entry.line.now result ≡ said_order verb (words_of (drop self.entry.at self.entry.line.now)) }
     {
-        let order = rows::order(self.only())?;
+        let order = rows::order(self.only()?)?;
         Some(Call {
             order,
             ..plain(verb)
@@ -177,7 +183,7 @@ impl<'a> Words<'a> {
     fn with_room(self, verb: Verb) -> Option<Call>
         ensures { heard_or self.entry.line.now result ≡ said_room verb (words_of (drop self.entry.at self.entry.line.now)) }
     {
-        let room = room_of(self.only())?;
+        let room = room_of(self.only()?)?;
         Some(Call {
             room,
             ..plain(verb)
@@ -190,7 +196,7 @@ impl<'a> Words<'a> {
     {
         let (w, next) = word::first_at(self.line, self.at);
         let amount = number::float(w)?;
-        let second = number::float(Words { at: next, ..self }.only())?;
+        let second = number::float(Words { at: next, ..self }.only()?)?;
         Some(Call {
             amount,
             second,
@@ -206,7 +212,7 @@ impl<'a> Words<'a> {
         let amount = number::float(w)?;
         let (w, next) = word::first_at(self.line, next);
         let second = number::float(w)?;
-        let side = Words { at: next, ..self }.only();
+        let side = Words { at: next, ..self }.only()?;
         let is_buy = word::is_name(side, b"buy");
         if !(is_buy | word::is_name(side, b"sell")) {
             return None;
@@ -226,8 +232,8 @@ impl<'a> Words<'a> {
         let (w, next) = word::first_at(self.line, self.at);
         let log = number::whole(w)?;
         let (lot, next) = Words { at: next, ..self }.lot();
-        let costs = list::span_at(self.line, next, RowKind::Cost, 32, true)?;
-        let first = list::span_at(self.line, costs.next, RowKind::Quote, 512, false)?;
+        let costs = list::span_at::<BrokerCost>(self.line, next, true)?;
+        let first = list::span_at::<Quote>(self.line, costs.next, false)?;
         Some(Call {
             log,
             lot,
@@ -241,8 +247,8 @@ impl<'a> Words<'a> {
     fn with_tables(self, verb: Verb) -> Option<Call>
         ensures { heard_or self.entry.line.now result ≡ said_check verb (words_of (drop self.entry.at self.entry.line.now)) }
     {
-        let first = list::span_at(self.line, self.at, RowKind::Quote, 512, true)?;
-        let fetched = list::span_at(self.line, first.next, RowKind::Quote, 512, false)?;
+        let first = list::span_at::<Quote>(self.line, self.at, true)?;
+        let fetched = list::span_at::<Quote>(self.line, first.next, false)?;
         Some(Call {
             first,
             fetched,
@@ -250,13 +256,13 @@ impl<'a> Words<'a> {
         })
     }
 
-    // ROOM WEIGHT*
+    // ROOM WEIGHT*. This and the next two read a room and a list, each of other rows into another field.
     fn with_walk(self, verb: Verb) -> Option<Call>
         ensures { heard_or self.entry.line.now result ≡ said_walk verb (words_of (drop self.entry.at self.entry.line.now)) }
     {
         let (w, next) = word::first_at(self.line, self.at);
         let room = room_of(w)?;
-        let weights = list::span_at(self.line, next, RowKind::Weight, 512, false)?;
+        let weights = list::span_at::<Weight>(self.line, next, false)?;
         Some(Call {
             room,
             weights,
@@ -270,7 +276,7 @@ impl<'a> Words<'a> {
     {
         let (w, next) = word::first_at(self.line, self.at);
         let room = room_of(w)?;
-        let orders = list::span_at(self.line, next, RowKind::Order, 1024, false)?;
+        let orders = list::span_at::<Order>(self.line, next, false)?;
         Some(Call {
             room,
             orders,
@@ -284,7 +290,7 @@ impl<'a> Words<'a> {
     {
         let (w, next) = word::first_at(self.line, self.at);
         let room = room_of(w)?;
-        let vendors = list::span_at(self.line, next, RowKind::Vendor, 1100, false)?;
+        let vendors = list::span_at::<VendorQuote>(self.line, next, false)?;
         Some(Call {
             room,
             vendors,
@@ -298,9 +304,9 @@ impl<'a> Words<'a> {
     {
         let (w, next) = word::first_at(self.line, self.at);
         let room = room_of(w)?;
-        let first = list::span_at(self.line, next, RowKind::Quote, 512, true)?;
-        let fetched = list::span_at(self.line, first.next, RowKind::Quote, 512, true)?;
-        let weights = list::span_at(self.line, fetched.next, RowKind::Weight, 512, false)?;
+        let first = list::span_at::<Quote>(self.line, next, true)?;
+        let fetched = list::span_at::<Quote>(self.line, first.next, true)?;
+        let weights = list::span_at::<Weight>(self.line, fetched.next, false)?;
         Some(Call {
             room,
             first,

@@ -1,5 +1,5 @@
 // Lists of rows in a line: they end at a `/` or at the line's end.
-#![tactic(auto, unfolding(crate::specs::Lists::is_row, crate::specs::Lists::order_or_blank, crate::specs::Lists::quote_or_blank, crate::specs::Lists::vendor_or_blank, crate::specs::Lists::weight_or_blank, crate::specs::Lists::cost_or_blank))]
+#![tactic(auto, unfolding(crate::specs::Lists::order_or_blank, crate::specs::Lists::quote_or_blank, crate::specs::Lists::vendor_or_blank, crate::specs::Lists::weight_or_blank, crate::specs::Lists::cost_or_blank))]
 
 ghost use Rattle.std.specs.Prelude.{◌≡◌, List, ℕ, Option, drop};
 ghost use Rattle.words.specs.Words.{words_of};
@@ -7,8 +7,8 @@ ghost use Rattle.market.specs.Orders.{blank_order};
 ghost use Rattle.market.specs.Quotes.{blank_quote};
 ghost use Rattle.market.specs.VendorQuotes.{blank_vendor};
 ghost use Rattle.market.specs.Weights.{blank_weight};
-ghost use Rattle.rows.specs.Rows.{order_of, quote_of, vendor_of, weight_of};
-ghost use Rattle.calls.specs.Lists.{is_slash, is_row, list_of, spanned, cost_or_blank, read_rows, read_orders, read_quotes, read_vendors, read_weights, read_costs};
+ghost use Rattle.rows.specs.Rows.{order_of, quote_of, vendor_of, weight_of, cost_of};
+ghost use Rattle.calls.specs.Lists.{is_slash, list_of, spanned, blank_cost, read_rows, read_orders, read_quotes, read_vendors, read_weights, read_costs};
 
 use costs::{BrokerCost, TradeCosts};
 use market::order::Order;
@@ -16,16 +16,6 @@ use market::quote::Quote;
 use market::vendor_quote::VendorQuote;
 use market::weight::Weight;
 use words::word;
-
-// What the words of a list are.
-#[derive(Clone, Copy)]
-pub enum RowKind {
-    Cost,
-    Order,
-    Quote,
-    Weight,
-    Vendor,
-}
 
 // A list: where its first word is looked for, how many rows it has, and where the words after it
 // are looked for.
@@ -38,7 +28,12 @@ pub struct Span {
 
 // A row that a word can be, and one that stands where a word is none. (The words of a span are rows,
 // so none of them is read as a blank.)
-trait WordRow: Copy {
+pub trait WordRow: Copy {
+    // A list has at most so many.
+    const MOST: usize;
+
+    ghost MOST: { ℕ };
+
     ghost row_of: { List ℕ → Option Self };
 
     ghost blank_row: { Self };
@@ -51,6 +46,10 @@ trait WordRow: Copy {
 }
 
 impl WordRow for Quote {
+    const MOST: usize = 512;
+
+    ghost MOST = { 512 };
+
     ghost row_of = { quote_of };
 
     ghost blank_row = { blank_quote };
@@ -65,6 +64,10 @@ impl WordRow for Quote {
 }
 
 impl WordRow for VendorQuote {
+    const MOST: usize = 1100;
+
+    ghost MOST = { 1100 };
+
     ghost row_of = { vendor_of };
 
     ghost blank_row = { blank_vendor };
@@ -79,6 +82,10 @@ impl WordRow for VendorQuote {
 }
 
 impl WordRow for Weight {
+    const MOST: usize = 512;
+
+    ghost MOST = { 512 };
+
     ghost row_of = { weight_of };
 
     ghost blank_row = { blank_weight };
@@ -93,6 +100,10 @@ impl WordRow for Weight {
 }
 
 impl WordRow for Order {
+    const MOST: usize = 1024;
+
+    ghost MOST = { 1024 };
+
     ghost row_of = { order_of };
 
     ghost blank_row = { blank_order };
@@ -106,16 +117,21 @@ impl WordRow for Order {
     }
 }
 
-// Each kind of row has its own reader.
-fn is_row(w: &[u8], kind: RowKind) -> bool
-    ensures { result ≡ is_row kind w.now }
-{
-    match kind {
-        RowKind::Cost => rows::cost(w).is_some(),
-        RowKind::Order => rows::order(w).is_some(),
-        RowKind::Quote => rows::quote(w).is_some(),
-        RowKind::Weight => rows::weight(w).is_some(),
-        RowKind::Vendor => rows::vendor(w).is_some(),
+impl WordRow for BrokerCost {
+    const MOST: usize = 32;
+
+    ghost MOST = { 32 };
+
+    ghost row_of = { cost_of };
+
+    ghost blank_row = { blank_cost };
+
+    fn read(w: &[u8]) -> Option<BrokerCost> {
+        rows::cost(w)
+    }
+
+    fn blank() -> BrokerCost {
+        BrokerCost::Flat(0.0)
     }
 }
 
@@ -125,10 +141,10 @@ fn is_slash(w: &[u8]) -> bool
     word::is_name(w, b"/")
 }
 
-// The list of such rows that starts at `at`, of `most` rows at most, where a `/` ends it, or with
-// `before` false the line's end.
-pub fn span_at(line: &[u8], at: usize, kind: RowKind, most: usize, before: bool) -> Option<Span>
-    ensures { spanned line.now result ≡ list_of kind most before (words_of (drop at line.now)) }
+// The list of such rows that starts at `at`, where a `/` ends it, or with `before` false the line's
+// end: a fact of where the list stands, which only its last word is held against.
+pub fn span_at<R: WordRow>(line: &[u8], at: usize, before: bool) -> Option<Span>
+    ensures { spanned line.now result ≡ list_of R.row_of R.MOST before (words_of (drop at line.now)) }
 {
     let mut i = at;
     let mut count: usize = 0;
@@ -142,12 +158,11 @@ pub fn span_at(line: &[u8], at: usize, kind: RowKind, most: usize, before: bool)
             }
             return Some(Span { at, count, next });
         }
-        if count >= most {
+        if count >= R::MOST {
             return None;
         }
-        if !is_row(w, kind) {
-            return None;
-        }
+        // The word is read as a row to see that it is one.
+        R::read(w)?;
         count += 1;
         i = next;
     }
@@ -167,7 +182,8 @@ fn rows<R: WordRow, const N: usize>(line: &[u8], span: Span) -> [R; N]
     list
 }
 
-// The words of a span, at most 512, as quotes.
+// The words of a span, at most 512, as quotes. This and the three below are `rows` at a length each, by the
+// names that callers read.
 #[tactic(auto, unfolding(crate::specs::Lists::quote_or_blank, crate::specs::Lists::read_quotes))]
 pub fn quotes(line: &[u8], span: Span) -> [Quote; 512]
     ensures { result ≡ read_quotes span.count (words_of (drop span.at line.now)) }
@@ -199,13 +215,6 @@ pub fn vendors(line: &[u8], span: Span) -> [VendorQuote; 1100]
     rows(line, span)
 }
 
-// The cost that a word is, or a blank one.
-fn cost_or_blank(w: &[u8]) -> BrokerCost
-    ensures { result ≡ cost_or_blank w.now }
-{
-    rows::cost(w).unwrap_or(BrokerCost::Flat(0.0))
-}
-
 // The words of a span as costs.
 pub fn costs(line: &[u8], span: Span) -> TradeCosts
     ensures { result ≡ read_costs span.count (words_of (drop span.at line.now)) }
@@ -214,7 +223,7 @@ pub fn costs(line: &[u8], span: Span) -> TradeCosts
     let mut place = span.at;
     for _i in 0..span.count {
         let (w, next) = word::first_at(line, place);
-        list = list.with(cost_or_blank(w));
+        list = list.with(BrokerCost::read(w).unwrap_or(BrokerCost::blank()));
         place = next;
     }
     list

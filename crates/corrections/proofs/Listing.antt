@@ -1,15 +1,18 @@
 -- The rows that stand, listed symbol by symbol in the first places of an array. Assumes nothing.
-use Prim.Native.Nat.{ℕ, ◌+◌, ◌≤◌, ◌<◌}
+use Prim.Native.Nat.{ℕ, suc, ◌+◌, ◌≤◌, ◌<◌}
 use native.Mathlib.Omega.{arith}
-use mathlib.Core.List.{List, [], ◌∷◌, ◌++◌, append-nil}
+use mathlib.Core.List.{List, [], ◌∷◌, ◌++◌, map}
 use Rattle.std.specs.declared.option.Option.{Option}
 use Rattle.std.specs.declared.option.Option.TheVariants.{None, Some}
 use mathlib.Core.Path.{◌≡◌, refl, ap, ap₂, sym, ◌∙◌}
-use lib.ListN.{length, take, set, replicate, length-append, length-replicate}
+use lib.ListN.{length, get_or, take, set, replicate, length-map, length-replicate}
+use lib.Seq.{take_all}
+use Rattle.std.specs.List.{flat_map, enumerate_from}
+use Rattle.std.specs.Option.{option_to_list}
+use Rattle.std.proofs.lemmas.List.{get_or-map}
+use Rattle.std.proofs.lemmas.List.FromFn.{length-enumerate_from, get_or-enumerate_from}
 use Rattle.lists.specs.Lists.{over, span, gather, given}
-use Rattle.lists.proofs.Keep.{gather-more}
-use Rattle.lists.proofs.Over.{over-more}
-use Rattle.lists.proofs.Spans.{length-span, span-at}
+use Rattle.lists.proofs.Over.{over-next}
 use Rattle.market.specs.Quotes.{blank_quote, listing}
 use Rattle.market.specs.VendorQuotes.{quote_of}
 use Rattle.market.specs.declared.quote.Quote.{Quote}
@@ -21,55 +24,72 @@ use Rattle.market.specs.declared.vendor_quote.VendorQuote.{VendorQuote}
 abbrev pub listed_at : List (Option VendorQuote) → ℕ → List Quote
 listed_at w s = given (stands_at w s) [] (λ r. quote_of r ∷ [])
 
--- the rows of the first i symbols
-abbrev pub listed_to : List (Option VendorQuote) → ℕ → List Quote
-listed_to w i = gather (listed_at w) (take i (span 0 256))
+-- the rows that stand, as the library's `flatten` gives them, and numbered
+abbrev pub standing : List (Option VendorQuote) → List VendorQuote
+standing w = flat_map option_to_list w
 
--- they stand in the first n places
-pub record Lists (w : List (Option VendorQuote)) (rows : List Quote) (n i : ℕ) : Type 0 where
-  pub few : n ≤ i
-  pub count : n ≡ length (listed_to w i)
-  pub first : rows ≡ over (listed_to w i) (replicate 257 blank_quote)
+abbrev pub numbered : List (Option VendorQuote) → List (ℕ × VendorQuote)
+numbered w = enumerate_from 0 (standing w)
 
-pub lists-blank : (w : List (Option VendorQuote)) (blank : Quote) → blank ≡ blank_quote → Lists w (replicate 257 blank) 0 0
-lists-blank w blank e = record { few = omega arith; count = refl; first = ap (replicate 257) e }
+-- their rows of the table
+abbrev pub quotes : List (Option VendorQuote) → List Quote
+quotes w = map quote_of (standing w)
 
--- once all symbols are through
-pub lists-all : (w : List (Option VendorQuote)) (rows : List Quote) (n i : ℕ) → 256 ≤ i → i ≤ 256 → Lists w rows n i → ◌≡◌ {A = QuoteRows} (record { rows = rows; count = n }) (listing (listed_from w))
-unfolding listed_from
-lists-all w rows n i h k l =
-    let all : i ≡ 256 = omega arith in
-    ap₂ (λ (x : List Quote) (y : ℕ). record { rows = x; count = y }) l.first l.count
-    ∙ ap (λ (j : ℕ). listing (listed_to w j)) all
+-- ---- they are the rows listed symbol by symbol
 
-module _ (w : List (Option VendorQuote)) where
-  listed_more : (i : ℕ) → i < 256 → listed_to w (i + 1) ≡ listed_to w i ++ listed_at w i
-  listed_more i h =
-      gather-more (listed_at w) (span 0 256) i 0 (omega (arith, h, length-span 0 256))
-      ∙ ap (λ (s : ℕ). listed_to w i ++ listed_at w s) (span-at 0 256 i 0 h ∙ omega arith)
+first_is : (o p : Option VendorQuote) (l : List (Option VendorQuote)) → o ≡ p → quotes (o ∷ l) ≡ given p [] (λ r. quote_of r ∷ []) ++ quotes l
+first_is None p l e = ap (λ (q : Option VendorQuote). given q [] (λ r. quote_of r ∷ []) ++ quotes l) e
+first_is (Some r) p l e = ap (λ (q : Option VendorQuote). given q [] (λ r. quote_of r ∷ []) ++ quotes l) e
 
-  module _ (rows : List Quote) (n i : ℕ) (k : Lists w rows n i) where
-    -- a row stands for symbol i
-    pub lists-row : (r : VendorQuote) → stands_at w i ≡ Some r → i < 256 → (rows' : List Quote) (n' : ℕ) → rows' ≡ set rows n (quote_of r) → n' ≡ n + 1 → Lists w rows' n' (i + 1)
-    lists-row r e h rows' n' is-rows is-n =
-        let q = quote_of r in
-        let more : listed_to w (i + 1) ≡ listed_to w i ++ (q ∷ []) = listed_more i h ∙ ap (λ (l : List Quote). listed_to w i ++ l) (ap (λ (o : Option VendorQuote). given o [] (λ r. quote_of r ∷ [])) e) in
-        record {
-          few = omega (arith, k.few, is-n);
-          count = is-n ∙ ap (λ (j : ℕ). j + 1) k.count ∙ sym (ap length more ∙ length-append (listed_to w i) (q ∷ []));
-          first =
-              is-rows
-              ∙ ap (λ (l : List Quote). set l n q) k.first
-              ∙ over-more (listed_to w i) (replicate 257 blank_quote) n q k.count (omega (arith, k.few, k.count, h, length-replicate 257 blank_quote))
-              ∙ ap (λ (l : List Quote). over l (replicate 257 blank_quote)) (sym more);
-        }
+from_place : (w l : List (Option VendorQuote)) (i : ℕ) → ((k j : ℕ) → k < length l → j ≡ i + k → get_or l k None ≡ get_or w j None) → quotes l ≡ gather (listed_at w) (span i (length l))
+from_place w [] i each = refl
+from_place w (o ∷ l) i each =
+    first_is o (stands_at w i) l (each 0 i (omega arith) (omega arith))
+    ∙ ap (λ (k : List Quote). listed_at w i ++ k) (from_place w l (suc i) (λ k j h e. each (suc k) j (omega arith) (omega arith)))
 
-    -- none does
-    pub lists-none : stands_at w i ≡ None → i < 256 → (rows' : List Quote) (n' : ℕ) → rows' ≡ rows → n' ≡ n → Lists w rows' n' (i + 1)
-    lists-none e h rows' n' is-rows is-n =
-        let same : listed_to w (i + 1) ≡ listed_to w i = listed_more i h ∙ ap (λ (l : List Quote). listed_to w i ++ l) (ap (λ (o : Option VendorQuote). given o [] (λ r. quote_of r ∷ [])) e) ∙ append-nil (listed_to w i) in
-        record {
-          few = omega (arith, k.few, is-n);
-          count = is-n ∙ k.count ∙ sym (ap length same);
-          first = is-rows ∙ k.first ∙ ap (λ (l : List Quote). over l (replicate 257 blank_quote)) (sym same);
-        }
+module _ (w : List (Option VendorQuote)) (long : length w ≡ 256) where
+  quotes-are : quotes w ≡ listed_from w
+  unfolding listed_from
+  quotes-are = from_place w w 0 (λ k j h e. ap (λ (m : ℕ). get_or w m None) (omega arith)) ∙ ap (λ (n : ℕ). gather (listed_at w) (span 0 n)) long
+
+  few : (l : List (Option VendorQuote)) → length (standing l) ≤ length l
+  few [] = omega arith
+  few (None ∷ l) = omega (arith, few l)
+  few (Some r ∷ l) = omega (arith, few l)
+
+  length-quotes : length (quotes w) ≡ length (standing w)
+  length-quotes = length-map (standing w) quote_of
+
+  abbrev blanks : List Quote
+  blanks = replicate 257 blank_quote
+
+  module _ (k n : ℕ) (r : VendorQuote) (h : k < length (numbered w)) (is : ◌≡◌ {A = ℕ × VendorQuote} (n, r) (get_or (numbered w) k (n, r))) where
+    within : k < length (standing w)
+    within = omega (arith, h, length-enumerate_from 0 (standing w))
+
+    both : ◌≡◌ {A = ℕ × VendorQuote} (n, r) (0 + k, get_or (standing w) k r)
+    both = is ∙ get_or-enumerate_from 0 (standing w) k (n, r) within
+
+    place-is : n ≡ k
+    place-is = ap (λ (p : ℕ × VendorQuote). p.0) both ∙ omega arith
+
+    quote-is : quote_of r ≡ get_or (quotes w) k (quote_of r)
+    quote-is = ap (λ (p : ℕ × VendorQuote). quote_of p.1) both ∙ sym (get_or-map quote_of (standing w) k r (quote_of r) within)
+
+    pub place-within : n < 256
+    place-within = omega (arith, place-is, within, few w, long)
+
+    -- one more is listed
+    pub list_one : (rows : List Quote) (q : Quote) → q ≡ quote_of r → rows ≡ over (take k (quotes w)) blanks → set rows n q ≡ over (take (k + 1) (quotes w)) blanks
+    list_one rows q f e =
+        ap (λ (m : ℕ). set rows m q) place-is
+        ∙ ap (λ (d : List Quote). set d k q) e
+        ∙ over-next (quotes w) blanks k q (quote_of r) (omega (arith, within, length-quotes)) (omega (arith, length-quotes, few w, long, length-replicate 257 blank_quote)) (f ∙ quote-is)
+
+  -- once all are through
+  pub list_all : (k n : ℕ) (rows : List Quote) → k ≡ length (numbered w) → n ≡ length (standing w) → rows ≡ over (take k (quotes w)) blanks → ◌≡◌ {A = QuoteRows} (record { rows = rows; count = n }) (listing (listed_from w))
+  list_all k n rows h c e =
+      ap₂ (λ (x : List Quote) (y : ℕ). record { rows = x; count = y })
+      (e ∙ ap (λ (m : List Quote). over m blanks) (take_all k (quotes w) (omega (arith, h, length-quotes, length-enumerate_from 0 (standing w)))))
+      (c ∙ sym length-quotes)
+      ∙ ap listing quotes-are

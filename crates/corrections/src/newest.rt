@@ -36,14 +36,10 @@ pub(crate) fn newest(rows: &[VendorQuote]) -> [Option<VendorQuote>; 256]
 pub(crate) fn listed(kept: &[Option<VendorQuote>; 256]) -> QuoteRows
     ensures { result ≡ listing (listed_from kept.now) }
 {
-    let blank = Quote::blank();
-    let mut rows = [blank; 257];
-    let mut count: usize = 0;
-    for place in kept {
-        if let Some(row) = place {
-            rows[count] = row.quote();
-            count += 1;
-        }
+    let mut rows = [Quote::blank(); 257];
+    for (n, row) in kept.iter().copied().flatten().enumerate() {
+        rows[n] = row.quote();
     }
+    let count = kept.iter().copied().flatten().count();
     QuoteRows { rows, count }
 }

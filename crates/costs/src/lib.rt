@@ -19,6 +19,7 @@ pub struct Impact {
     pub price: f64,
 }
 
+// The constructors are the Rust's, for callers: the engine names the variants.
 impl BrokerCost {
     pub fn per_share(val: f64) -> Self
         ensures { result ≡ BrokerCost.PerShare val }
@@ -67,8 +68,9 @@ impl BrokerCost {
     }
 }
 
-// A broker's costs, in order: the first `count` of the list, which is fixed memory of 16 places, so
-// that a count above 16 reads as 16.
+// A broker's costs, in order: the first `count` of the list, which is fixed memory of 16 places, since
+// the engine allocates nothing. A count above 16 reads as 16: it shows that there were more, of which
+// the builder draws 14. A broker is copied with its costs, and the type of `arrayvec` is not `Copy`.
 #[derive(Clone, Copy)]
 pub struct TradeCosts {
     pub list: [BrokerCost; 16],

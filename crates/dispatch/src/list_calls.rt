@@ -11,7 +11,8 @@ use std::io;
 use std::io::Write;
 use std::time::CpuClock;
 
-// Is this a call that is answered by a list, and needs no log?
+// Is this a call that is answered by a list, and needs no log? It is asked before `on_lists`, so that no
+// other call enters a frame that holds lists. What is left there, in the last case, is one of the reads.
 pub fn is_listed(c: &Call) -> bool {
     matches!(
         c.verb,
@@ -63,6 +64,7 @@ impl<R: CpuClock, W: Write> Job<'_, R, W> {
             Verb::GetHoldings => self.answer(from, &rows(&read::holdings_on(*b, room))),
             Verb::GetPendingOrders => self.answer(from, &rows(&read::pending_on(*b, room))),
             Verb::GetQuotes => self.answer(from, &rows(&read::quotes_on(*b, room))),
+            // `get_trade_costs`: `on_lists` is asked for no other verb.
             _ => self.answer(from, &rows(&read::costs_on(*b, room))),
         }
     }

@@ -13,7 +13,8 @@ use std::io;
 use std::io::Write;
 use std::time::CpuClock;
 
-// Is the log lent to this call?
+// Is the log lent to this call? It is asked before `on_log`, so that no other call enters a frame that
+// holds lists. What is left there, in the last case, is the turnover.
 pub fn needs_log(c: &Call) -> bool {
     matches!(
         c.verb,

@@ -4,9 +4,9 @@ use calls::call::Call;
 use calls::verb::Verb;
 use report::answer::Reply;
 
-// The reads of no symbol, and rounding.
-fn figure(b: &UistBroker, c: &Call) -> Reply {
-    match c.verb {
+// The reads of no symbol, and rounding; none of another call.
+fn figure(b: &UistBroker, c: &Call) -> Option<Reply> {
+    Some(match c.verb {
         Verb::GetTotalValue => Reply::Float(b.get_total_value()),
         Verb::GetLiquidationValue => Reply::Float(b.get_liquidation_value()),
         Verb::GetCashBalance => Reply::Float(b.get_cash_balance()),
@@ -17,13 +17,14 @@ fn figure(b: &UistBroker, c: &Call) -> Reply {
         }
         Verb::CalculateTradeCosts => Reply::Float(b.calculate_trade_costs(c.amount, c.second)),
         Verb::Floor => Reply::Float(Ok(floats::floor(c.amount))),
-        _ => Reply::Float(Ok(floats::ceil(c.amount))),
-    }
+        Verb::Ceil => Reply::Float(Ok(floats::ceil(c.amount))),
+        _ => return None,
+    })
 }
 
-// A call that changes nothing and is answered by no list.
-pub fn ask(b: &UistBroker, c: &Call) -> Reply {
-    match c.verb {
+// A call that changes nothing and is answered by no list; none of another line.
+pub fn ask(b: &UistBroker, c: &Call) -> Option<Reply> {
+    Some(match c.verb {
         Verb::GetQuote => Reply::Quote(b.get_quote(c.symbol)),
         Verb::GetPositionQty => Reply::Amount(b.get_position_qty(c.symbol)),
         Verb::GetPendingOrder => Reply::Amount(b.get_pending_order(c.symbol)),
@@ -31,6 +32,6 @@ pub fn ask(b: &UistBroker, c: &Call) -> Reply {
         Verb::GetPositionLiquidationValue => {
             Reply::Amount(b.get_position_liquidation_value(c.symbol))
         }
-        _ => figure(b, c),
-    }
+        _ => return figure(b, c),
+    })
 }

@@ -1,8 +1,8 @@
 -- What counts that hold together obey. Assumes nothing.
 use Rattle.std.specs.declared.option.Option.{Option}
-use Rattle.std.specs.declared.option.Option.TheVariants.{None}
+use Rattle.std.specs.declared.option.Option.TheVariants.{None, Some}
 use Rattle.std.specs.Option.{option_or}
-use Rattle.std.proofs.Common.{◌≡◌, ℕ, ◌+◌, ◌<◌, ◌≤◌, Bool, true, false, not, ◌||◌, eqb, ltb, List, [], ◌∷◌, set, sym, refl, ap, ◌∙◌, ap₂, arith, ltb-false, le-ltb, lt-ltb, eqb-true}
+use Rattle.std.proofs.Common.{◌≡◌, ℕ, ◌+◌, ◌<◌, ◌≤◌, Bool, true, false, not, ◌||◌, eqb, ltb, [], ◌∷◌, sym, refl, ap, ◌∙◌, arith, ltb-false, le-ltb, lt-ltb, eqb-true}
 use borrow.Author.Tests.{eqb-false}
 use Rattle.market.specs.Faults.{◌draws◌, drawn}
 use Rattle.market.specs.declared.fault.Fault.{Fault}
@@ -11,9 +11,8 @@ use Rattle.market.specs.Orders.{order_tests}
 use Rattle.market.specs.declared.order.Order.{Order}
 use Rattle.market.proofs.Faults.{drawn-append, append-none, none-drawn}
 use Rattle.orders.specs.Orders.{book_width}
-use Rattle.exchange.specs.State.{waiting_row, broken_of, broken_test, broken_fault, log_fault, room_of}
-use Rattle.exchange.specs.Insert.{taken_one, has_room, join_of, insert_tests, joined}
-use Rattle.exchange.specs.declared.state.Booked.{Booked}
+use Rattle.exchange.specs.State.{broken_of, broken_test, broken_fault, log_fault, room_of}
+use Rattle.exchange.specs.Insert.{taken_one, has_room, join_of, insert_tests}
 use Rattle.exchange.specs.declared.state.Counts.{Counts}
 use Rattle.exchange.specs.declared.state.UistV1.{UistV1}
 use Rattle.exchange.specs.declared.insert.Joining.{Joining}
@@ -111,31 +110,23 @@ pub record Free (c : Counts) : Type 0 where
 pub has_room-free : {c : Counts} → Free c → has_room c ≡ true
 has_room-free {c} f = simp (lt-ltb (c.resting + c.waits) book_width f.place, lt-ltb c.taken c.room f.row)
 
+-- one order more waits, at its place
+abbrev pub joining : Counts → Joining
+joining c = record { counts = taken_one c; at = c.resting + c.waits }
+
 -- where there is room, one order more waits
-pub joins : (c : Counts) → Free c → join_of c ≡ record { counts = taken_one c; at = c.resting + c.waits }
+pub joins : (c : Counts) → Free c → join_of c ≡ Some (joining c)
 unfolding join_of
 joins c f = rw (has_room-free f)
-
--- the row at the place that the step gives, and the step's counts, are the state with the order
-module _ (e : UistV1) (j : Joining) (p : j ≡ join_of e.counts) (f : Free e.counts) where
-  pub join-place : j.at < book_width
-  join-place = omega (arith, ap (λ (x : Joining). x.at) (p ∙ joins e.counts f), f.place)
-
-  pub join-book : (o : Order) (r : Booked) → r ≡ waiting_row o → set e.book j.at r ≡ (joined e o).book
-  join-book o r q = ap₂ (λ (x : Joining) (y : Booked). set e.book x.at y) (p ∙ joins e.counts f) q
-
-  pub join-counts : j.counts ≡ taken_one e.counts
-  join-counts = ap (λ (x : Joining). x.counts) (p ∙ joins e.counts f)
 
 module _ (e : UistV1) (o : Order) (n : drawn (insert_tests e.counts o) ≡ None) where
   free : Free e.counts
   free = let r = insert-facts e.counts o n in record { place = r.places; row = r.rows }
 
-  -- where nothing is drawn the counts give a place of the book
-  pub join_fits : (join_of e.counts).at < 1024
-  join_fits = join-place e (join_of e.counts) refl free
+  -- where nothing is drawn there is a place of the book
+  pub join_fits : e.counts.resting + e.counts.waits < 1024
+  join_fits = free.place
 
-  -- and the state with the order there, and with the counts after it, is the one that the order joined
-  pub joins_by : record { book = set e.book (join_of e.counts).at (waiting_row o); counts = (join_of e.counts).counts } ≡ joined e o
-  joins_by =
-      ap₂ (λ (l : List Booked) (c : Counts). record { book = l; counts = c }) (join-book e (join_of e.counts) refl free o (waiting_row o) refl) (join-counts e (join_of e.counts) refl free)
+  -- and the order joins there
+  pub joins_by : join_of e.counts ≡ Some (joining e.counts)
+  joins_by = joins e.counts free

@@ -1,5 +1,5 @@
 -- Insertion: document 01, section 3, and the sender's numbers of a direct insertion. Definitions only.
-use Rattle.std.specs.Prelude.{◌+◌, Bool, cond, ◌&&◌, List, ◌∷◌, ◌++◌, nat_lt, slice_set}
+use Rattle.std.specs.Prelude.{◌+◌, Option, None, Some, Bool, cond, ◌&&◌, List, ◌∷◌, ◌++◌, nat_lt, slice_set}
 use Rattle.market.specs.Faults.{Test, drawn, unless_drawn}
 use Rattle.market.specs.declared.fault.After.{After}
 use Rattle.market.specs.Orders.{order_tests}
@@ -22,9 +22,9 @@ taken_one c = record { resting = c.resting; waits = c.waits + 1; ids = c.ids; ta
 abbrev pub has_room : Counts → Bool
 has_room c = nat_lt (c.resting + c.waits) book_width && nat_lt c.taken c.room
 
--- one order more waits, and its place; where there is no room, nothing moves
-unfoldable pub join_of : Counts → Joining
-join_of c = cond (has_room c) (record { counts = taken_one c; at = c.resting + c.waits }) (record { counts = c; at = 0 })
+-- one order more waits, and its place, where there is room
+unfoldable pub join_of : Counts → Option Joining
+join_of c = cond (has_room c) (Some (record { counts = taken_one c; at = c.resting + c.waits })) None
 
 -- an insertion joins the waiting list
 abbrev pub joined : UistV1 → Order → UistV1

@@ -7,7 +7,8 @@ use crate::state::{Booked, UistV1};
 use market::fault::After;
 
 // Where a number stands among resting orders. Sixteen bits count the places (document 02, request 3),
-// of which the book has 1,024; a number has 64.
+// of which the book has 1,024; a number has 64. A slice's type has no such bound, so it is asked for:
+// `delete_order` has it from its test for 16.
 fn place_of(resting: &[Booked], order_id: u64) -> Option<usize>
     requires { length resting.now ≤ 1024 }
     ensures { result ≡ first_from 0 (has_number order_id) resting.now }
@@ -21,7 +22,8 @@ fn place_of(resting: &[Booked], order_id: u64) -> Option<usize>
     None
 }
 
-// The state without the resting order at a place: those behind it move up by one.
+// The state without the resting order at a place: those behind it move up by one. What is asked follows
+// from the test for 16 and the search, as counts are plain data.
 fn removed(e: UistV1, at: usize) -> UistV1
     requires { (at < e.counts.resting) × (e.counts.resting + e.counts.waits ≤ 1024) }
     ensures { result ≡ removed_of e at }

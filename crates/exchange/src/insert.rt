@@ -47,26 +47,23 @@ impl Counts {
             && self.taken < self.room
     }
 
-    // One order more waits; where there is no room, nothing moves.
+    // One order more waits, where there is room for it.
     #[tactic(auto, unfolding(crate::specs::Insert::join_of))]
-    pub fn join(self) -> Joining
+    pub fn join(self) -> Option<Joining>
         ensures { result ≡ join_of self }
     {
         if !self.has_room() {
-            return Joining {
-                counts: self,
-                at: 0,
-            };
+            return None;
         }
         let counts = Counts {
             waits: self.waits + 1,
             taken: self.taken + 1,
             ..self
         };
-        Joining {
+        Some(Joining {
             counts,
             at: self.resting + self.waits,
-        }
+        })
     }
 }
 
@@ -79,9 +76,10 @@ impl UistV1 {
         let fault = self.counts.insert_fault(order);
         let mut state = self;
         if fault.is_none() {
-            let join = self.counts.join();
-            state.book[join.at] = Booked::waiting(order);
-            state.counts = join.counts;
+            if let Some(join) = self.counts.join() {
+                state.book[join.at] = Booked::waiting(order);
+                state.counts = join.counts;
+            }
         }
         After { state, fault }
     }

@@ -5,7 +5,8 @@ ghost use Rattle.exchange.specs.State.{booked_as, waiting_row, fresh, broken_of,
 use market::fault::Fault;
 use market::order::Order;
 
-// An order in the book. A waiting order has no number yet: 0 stands there.
+// An order in the book. A waiting order has no number yet: 0 stands there, and no `Option`, since no
+// call asks for the number of a waiting order.
 #[derive(Clone, Copy)]
 pub struct Booked {
     pub id: u64,

@@ -9,7 +9,8 @@ use market::table::{ReadTable, Table};
 use market::trade::{self, Trade};
 
 // The new state, the trades in the first `count` places of `trades`, the log's row where the first
-// of them goes, and what was drawn. The trades stand in fixed memory, with their count.
+// of them goes, and what was drawn. The trades stand in fixed memory, with their count: `ArrayVec` is no
+// `Copy`, as this answer is. A refused one has count 0, as `tick` has one way through.
 #[derive(Clone, Copy)]
 pub struct Ticked {
     pub exchange: UistV1,
@@ -19,7 +20,8 @@ pub struct Ticked {
     pub fault: Option<Fault>,
 }
 
-// What a tick on a lent log answers: the new state, how many orders traded, and what was drawn.
+// What a tick on a lent log answers: the new state, how many orders traded, and what was drawn. The count
+// is 0 then; the three stand side by side, so that the contract has an equation for each.
 #[derive(Clone, Copy)]
 pub struct TickAnswer {
     pub exchange: UistV1,
@@ -27,7 +29,8 @@ pub struct TickAnswer {
     pub fault: Option<Fault>,
 }
 
-// The resting orders that stay, and the trades of the others, each in fixed memory with a count.
+// The resting orders that stay, and the trades of the others, each in fixed memory with a count: they
+// become the state's book and the answer's trades, which are `Copy`, as `ArrayVec` is not.
 #[derive(Clone, Copy)]
 struct Executed {
     book: [Booked; 1024],
@@ -36,8 +39,8 @@ struct Executed {
     count: usize,
 }
 
-// A book, how many of its orders rest, and how many numbers were given. The book is fixed memory, so its
-// count stands beside it.
+// A book, how many of its orders rest, and how many numbers were given. The book is fixed memory and
+// becomes the state's, so its count stands beside it.
 #[derive(Clone, Copy)]
 struct Booking {
     book: [Booked; 1024],
@@ -55,6 +58,8 @@ fn no_trades() -> [Trade; 1024]
 
 // Trades the resting orders that meet their rule, in book order. What stays moves up in its own
 // array, never past the order that a turn reads, so that the book is copied once: hence the places.
+// That no more rest than the book has places is asked for: counts are plain data, and a tick's test for
+// 16 shows it.
 fn execute_orders(book: &[Booked; 1024], resting: usize, quotes: &Table) -> Executed
     requires { resting ≤ 1024 }
     ensures { result ≡ execute_of book.now resting quotes.now }
@@ -85,7 +90,8 @@ fn execute_orders(book: &[Booked; 1024], resting: usize, quotes: &Table) -> Exec
 }
 
 impl Booking {
-    // Books the waiting orders of one side behind those that are booked, in order of taking.
+    // Books the waiting orders of one side behind those that are booked, in order of taking. That they
+    // have places is asked for, as it follows from a tick's test for 16.
     fn book_side(&mut self, waiting: &[Booked], sells: bool)
         requires { self.old.at + length (side_of sells waiting.now) ≤ 1024 }
         ensures { self.new ≡ book_side_of self.old (side_of sells waiting.now) }
@@ -100,7 +106,7 @@ impl Booking {
     }
 
     // Books the waiting orders, which stand in `old` from a place on, behind those that are booked:
-    // sells first, then buys.
+    // sells first, then buys. What is asked follows from a tick's test for 16, too.
     fn book_waiting(&mut self, old: &[Booked; 1024], from: usize, waits: usize)
         requires { (from + waits ≤ 1024) × (self.old.at ≤ from) }
         ensures { self.new ≡ book_waiting_of old.now from waits self.old }
@@ -113,7 +119,8 @@ impl Booking {
 
 impl Counts {
     // The counts after a tick that booked `resting` orders up to the number `ids` and traded `count`;
-    // as they were where something is drawn.
+    // as they were where something is drawn. That no more are logged than were taken follows from the
+    // test for 16, and is asked for.
     fn after(self, fault: Option<Fault>, resting: usize, ids: u64, count: usize) -> Counts
         requires { fault ≡ None → self.logged + count ≤ self.taken }
         ensures { result ≡ unless_drawn fault (counts_after self resting ids count) self }

@@ -16,7 +16,9 @@ pub fn is_lot(lot: u32) -> bool
     lot >= 1 && lot <= 1000000
 }
 
-// The greatest whole number not above a, for 0 < a < 2^52.
+// The greatest whole number not above a, for 0 < a < 2^52. What is asked here,
+// in `whole_over`, `multiple_over` and `Lot::floor`, is no type's invariant: whoever made a value of that
+// type would have to prove it at the same places.
 pub(crate) fn whole_under(a: f64) -> u64
     requires above_zero { T (Ieee.lt (fin false 0 (pos 0)) a) }
     requires in_range { T (Ieee.lt a (fin false 1 (pos 52))) }

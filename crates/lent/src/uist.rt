@@ -22,7 +22,9 @@ use portfolio::basis::{Basis, basis_step, no_basis};
 use turnover::Sums;
 
 // How many orders traded, how many sells were queued, and what was drawn: a check that is refused
-// answers the broker too, so this is no `Result`.
+// answers the broker too, so this is no `Result`. Both counts are 0 then. A `Result` of the two beside
+// the broker would be a struct more, and a contract by cases where each part now has its equation; the
+// ledger's answer has its parts side by side as well.
 #[derive(Clone, Copy)]
 pub struct CheckAnswer {
     pub broker: UistBroker,
@@ -32,7 +34,8 @@ pub struct CheckAnswer {
 }
 
 // The total value, how many events were written, and what was drawn. With 13 or 18 the check stands, so
-// the broker is answered too, and this is no `Result`.
+// the broker is answered too, and this is no `Result`. The value and the count are 0 where anything is
+// drawn; they stand side by side with it as a check's do, and as the ledger's answer has them.
 #[derive(Clone, Copy)]
 pub struct UpdateAnswer {
     pub broker: UistBroker,

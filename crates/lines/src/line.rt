@@ -8,6 +8,7 @@ use numerals::decimal;
 use words::{number, word};
 
 // The first field, and what stands behind the comma that ends it; nothing does where there is no comma.
+// By `splitn` it was tried, and the proof did not close: what `splitn` gives in turn has no lemma in std.
 fn field(s: &[u8]) -> (&[u8], &[u8])
     ensures first { result.0.now ≡ before s.now }
     ensures rest { result.1.now ≡ behind s.now }
@@ -20,7 +21,7 @@ fn field(s: &[u8]) -> (&[u8], &[u8])
 fn capped(n: u64) -> u32
     ensures { result ≡ min n 256 }
 {
-    if n > 255 { 256 } else { n as u32 }
+    n.min(256) as u32
 }
 
 // The row that a line, without its newline, says. A symbol above 255 is 256 here.

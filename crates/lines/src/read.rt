@@ -10,7 +10,8 @@ use market::row::Row;
 // A table that was read, declared by crate `market` and named here as well.
 pub use market::table::QuoteRows;
 
-// The rows of the lines, or what one of them draws.
+// The rows of the lines, or what one of them draws. The rows so far stand in an array, and `n` counts
+// them: there is no heap here, and both are what `QuoteRows` has in the end.
 fn lines_read(input: &[u8]) -> Result<QuoteRows, Fault>
     ensures { result ≡ lines_read input.now }
 {

@@ -11,7 +11,8 @@ use numerals::spelled;
 use numerals::spelled::Spelled;
 
 // Puts a field and the byte that ends it behind the first `at` bytes, and answers where the next
-// starts.
+// starts. No struct holds the buffer and the place: `Puts` says both before and both after, and it
+// would say them of a struct's two fields.
 fn put_field(out: &mut [u8], at: usize, field: Spelled, end: u8) -> usize
     requires { (field.count ≤ 20) × (at + field.count < length out.old) }
     ensures { Puts (take field.count field.bytes ++ (end ∷ [])) at out.old result out.new }
@@ -22,7 +23,8 @@ fn put_field(out: &mut [u8], at: usize, field: Spelled, end: u8) -> usize
     at + n + 1
 }
 
-// Puts the line of a symbol's row.
+// Puts the line of a symbol's row. The symbol is a place of the table: below 256 it has at most three
+// digits, and its line 59 bytes.
 fn put_line(out: &mut [u8], at: usize, symbol: u64, q: Quote) -> usize
     requires { (symbol < 256) × (at + 59 ≤ length out.old) }
     ensures puts { Puts (line_text (line_for symbol q) ++ newline) at out.old result out.new }

@@ -7,7 +7,7 @@ use std::fmt;
 // What a call draws. A call that draws nothing answers `None` in its place, or `Ok`.
 #[derive(Clone, Copy, PartialEq, Eq)]
 pub enum Fault {
-    UnknownSymbol,
+    UnknownSymbol = 1,
     BadValue,
     NotAscending,
     BrokerFailed,
@@ -36,30 +36,7 @@ impl Fault {
     pub fn number(self) -> u32
         ensures { result ≡ number_of self }
     {
-        match self {
-            Fault::UnknownSymbol => 1,
-            Fault::BadValue => 2,
-            Fault::NotAscending => 3,
-            Fault::BrokerFailed => 4,
-            Fault::Unquoted => 5,
-            Fault::NotMarket => 6,
-            Fault::ExceedsCash => 7,
-            Fault::ExceedsHolding => 8,
-            Fault::ZeroShares => 9,
-            Fault::LogFull => 10,
-            Fault::BookFull => 11,
-            Fault::WithdrawFailed => 12,
-            Fault::NothingToWeigh => 13,
-            Fault::TooManyCosts => 14,
-            Fault::ListTooShort => 15,
-            Fault::Unsound => 16,
-            Fault::LotOutOfRange => 17,
-            Fault::BeyondLot => 18,
-            Fault::MalformedLine => 19,
-            Fault::TextTooLong => 20,
-            Fault::AlikeRows => 21,
-            Fault::TooManyRows => 22,
-        }
+        self as u32
     }
 }
 

@@ -4,7 +4,7 @@ ghost use Rattle.market.specs.Quotes.{blank_quote, is_price};
 
 use crate::row::Row;
 
-#[derive(Clone, Copy, PartialEq)]
+#[derive(Clone, Copy, Default, PartialEq)]
 pub struct Quote {
     pub symbol: u32,
     pub bid: f64,
@@ -24,12 +24,7 @@ impl Quote {
     pub fn blank() -> Quote
         ensures { result ≡ blank_quote }
     {
-        Quote {
-            symbol: 0,
-            bid: 0.0,
-            ask: 0.0,
-            date: 0,
-        }
+        Quote::default()
     }
 }
 

@@ -9,14 +9,16 @@ use crate::quote::Quote;
 use crate::row::RowsRead;
 
 // The row of a symbol stands at the symbol's place. `fault` is the number that the first bad row
-// drew; the rows before it are read.
+// drew. It stands beside the rows, and this is no `Result`: the rows before a bad one are read, as
+// `table_of` says, and a call that takes a table draws its number before it reads a row.
 #[derive(Clone, Copy)]
 pub struct Table {
     pub rows: [Option<Quote>; 256],
     pub fault: Option<Fault>,
 }
 
-// The first `count` rows, in fixed memory. There is a place more than a table has rows.
+// The first `count` rows, in fixed memory, since nothing is allocated here. A list of `arrayvec` is no
+// `Copy`, as this is to its callers. There is a place more than a table has rows.
 #[derive(Clone, Copy)]
 pub struct QuoteRows {
     pub rows: [Quote; 257],

@@ -70,23 +70,16 @@ impl Trade {
     pub fn of(o: Order, q: Quote) -> Trade
         ensures { result ≡ trade_of o q }
     {
-        let date = q.date;
-        if o.is_sell() {
-            Trade {
-                symbol: o.symbol,
-                typ: TradeType::Sell,
-                value: q.bid * o.shares,
-                quantity: o.shares,
-                date: date,
-            }
-        } else {
-            Trade {
-                symbol: o.symbol,
-                typ: TradeType::Buy,
-                value: q.ask * o.shares,
-                quantity: o.shares,
-                date: date,
-            }
+        Trade {
+            symbol: o.symbol,
+            typ: if o.is_sell() {
+                TradeType::Sell
+            } else {
+                TradeType::Buy
+            },
+            value: price_at(o, q) * o.shares,
+            quantity: o.shares,
+            date: q.date,
         }
     }
 }

@@ -7,7 +7,9 @@ use crate::fault::Fault;
 use crate::quote::Quote;
 use crate::row::Row;
 
-#[derive(Clone, Copy)]
+// A quote's fields are repeated: document 02 gives the vendor's row one more than a quote, and callers
+// name the five one beside the other.
+#[derive(Clone, Copy, Default)]
 pub struct VendorQuote {
     pub symbol: u32,
     pub bid: f64,
@@ -21,13 +23,7 @@ impl VendorQuote {
     pub fn blank() -> VendorQuote
         ensures { result ≡ blank_vendor }
     {
-        VendorQuote {
-            symbol: 0,
-            bid: 0.0,
-            ask: 0.0,
-            date: 0,
-            revision: 0,
-        }
+        VendorQuote::default()
     }
 
     // The row of a table, which has no revision.

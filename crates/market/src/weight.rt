@@ -7,15 +7,16 @@ ghost use Rattle.std.specs.Float.Ieee.Scale.{finite};
 use crate::fault::Fault;
 use crate::row::{Row, RowsRead};
 
-#[derive(Clone, Copy)]
+#[derive(Clone, Copy, Default)]
 pub struct Weight {
     pub symbol: u32,
     pub weight: f64,
 }
 
-// Weights by ascending symbol: the first `count` rows; `fault` is the number that the first bad row
-// drew. Its fields are private, so only reading rows makes one. Like a table they stand in fixed
-// memory.
+// Weights by ascending symbol: the first `count` rows, in fixed memory, since nothing is allocated
+// here; a list of `arrayvec` is no `Copy`, and these are copied. `fault` is the number that the first
+// bad row drew, beside the rows before it, which are read as those of a table are. The fields are
+// private, so only reading rows makes one.
 #[derive(Clone, Copy)]
 pub struct Weights {
     rows: [Weight; 256],
@@ -42,15 +43,13 @@ impl Weight {
     pub fn blank() -> Weight
         ensures { result ≡ blank_weight }
     {
-        Weight {
-            symbol: 0,
-            weight: 0.0,
-        }
+        Weight::default()
     }
 }
 
 // These rows, in the first places of an array. They are copied one by one: of a copy into a part of a
-// local array no tactic finds what it leaves.
+// local array no tactic finds what it leaves. That they fit is asked of `Weights::of` alone, whose good
+// rows ascend below 256; a type would have to prove it at the same place.
 fn kept(rows: &[Weight]) -> [Weight; 256]
     requires { length rows.now ≤ 256 }
     ensures { result ≡ over rows.now (replicate 256 blank_weight) }

@@ -35,11 +35,7 @@ pub fn decimal(s: &[u8]) -> Option<u64>
     }
     let mut n: u64 = 0;
     for b in s {
-        let d = number::digit(*b)?;
-        if d > 9 {
-            return None;
-        }
-        n = grown(n, d);
+        n = grown(n, number::decimal_digit(*b)?);
     }
     Some(n)
 }

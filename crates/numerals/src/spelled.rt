@@ -28,7 +28,9 @@ fn places(n: u64) -> usize
     n.max(1).ilog10() as usize + 1
 }
 
-// The last `k` digits of n, behind the first `at` bytes.
+// The last `k` digits of n, behind the first `at` bytes: from the last one back, as the division gives
+// them. An array is taken and answered, so that each text below is one literal; with a lent slice each
+// would name its array and cut it.
 fn spell(bytes: [u8; 20], at: usize, base: u64, n: u64, k: usize) -> [u8; 20]
     requires { (at + k ≤ 20) × (0 < base) × (base ≤ 16) }
     ensures { result ≡ stored bytes at (last_digits base k n) }

@@ -5,9 +5,12 @@ use mathlib.Core.Bool.{Bool, true, false}
 use mathlib.Core.List.{List, [], ◌∷◌, ◌++◌, append_assoc, append-nil}
 use Rattle.std.specs.declared.option.Option.{Option}
 use Rattle.std.specs.declared.option.Option.TheVariants.{None, Some}
+use Rattle.std.specs.Prelude.{option_map}
 use native.Mathlib.Omega.{arith}
 use native.Mathlib.Numerals.{add-one}
-use lib.Ieee.{Float}
+use lib.Ieee as Ieee
+use lib.Ieee.{Float, nan, inf, fin}
+use Rattle.std.specs.Float.{float_with_sign}
 use lib.ListN.{length, drop, get_or, drop_of_length-le}
 use lib.Seq.{drop-cons}
 use Rattle.market.specs.declared.order.Order.{Order}
@@ -16,15 +19,25 @@ use Rattle.market.proofs.Weights.{no_weight}
 use Rattle.costs.specs.Kept.{costs_of}
 use Rattle.market.specs.Quotes.{row_at}
 use Rattle.market.specs.declared.quote.Quote.{Quote}
+use Rattle.rules.specs.Amounts as Amounts
 use Rattle.rules.specs.Amounts.{is_zero, minus, times}
 use Rattle.rules.specs.Money.{Money, or_zero}
 use Rattle.rules.specs.Values.{value_of}
 use Rattle.portfolio.specs.State.{money_of}
 use Rattle.portfolio.specs.declared.state.Portfolio.{Portfolio}
-use Rattle.rules.specs.Weights.{orders_at, row_orders, then_rows, difference, wanted}
+use Rattle.rules.specs.Weights.{shares_for, order_for, orders_at, row_orders, then_rows, difference, wanted}
 use Rattle.portfolio.specs.Lists.{no_orders, listed, with_order}
 use Rattle.portfolio.specs.declared.list.OrderList.{OrderList}
 use Rattle.portfolio.proofs.Listing.{Wide, none-wide, none-listed, none-count, with-listed, with-wide, with-few}
+
+-- the size of shares that are not zero is what the library's `abs` answers
+pub sized : (x : Float) → is_zero x ≡ false → float_with_sign false x ≡ Amounts.size x
+unfolding Ieee.lt Ieee.eq Ieee.neg Ieee.of_bits float_with_sign
+sized nan e = refl
+sized (inf true) e = refl
+sized (inf false) e = refl
+sized (fin true m k) e = grind arith
+sized (fin false m k) e = grind arith
 
 -- ---- the walk: the orders so far, and those of the weights that are left, are the whole
 
@@ -134,6 +147,15 @@ module _ (p : Portfolio) (v : Float) (w : Weight) (x : Float) where
       is_zero (difference (money_of p) v w) ≡ b
   zero-read b e t = sym (ap (λ (y : Float). is_zero (minus (times v w.weight) y)) e) ∙ t
 
-  pub row-read : (q : Option Quote) → x ≡ or_zero (value_of (money_of p) w.symbol) → q ≡ row_at p.latest w.symbol →
+  row-read : (q : Option Quote) → x ≡ or_zero (value_of (money_of p) w.symbol) → q ≡ row_at p.latest w.symbol →
       orders_at p.lot (costs_of p.costs) w.symbol (minus (times v w.weight) x) q ≡ orders_of (money_of p) v w
   row-read q e f = ap₂ (λ (y : Float) (r : Option Quote). orders_at p.lot (costs_of p.costs) w.symbol (minus (times v w.weight) y) r) e f
+
+  -- the symbol is unquoted: no order
+  pub unquoted-read : x ≡ or_zero (value_of (money_of p) w.symbol) → None ≡ row_at p.latest w.symbol → Some [] ≡ orders_of (money_of p) v w
+  unquoted-read e f = row-read None e f
+
+  -- else the order that the shares come to, where they are not missing
+  pub quoted-read : (q : Quote) (s : Option Float) → x ≡ or_zero (value_of (money_of p) w.symbol) → Some q ≡ row_at p.latest w.symbol →
+      s ≡ shares_for p.lot (costs_of p.costs) (minus (times v w.weight) x) q → option_map (order_for w.symbol) s ≡ orders_of (money_of p) v w
+  quoted-read q s e f g = ap (option_map (order_for w.symbol)) g ∙ row-read (Some q) e f

@@ -12,6 +12,7 @@ pub struct Basis {
     pub value: f64,
 }
 
+// (`Default` would be the same under another name than the rule's.)
 pub fn no_basis() -> Basis
     ensures { basis_in result ≡ no_basis }
 {

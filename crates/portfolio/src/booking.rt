@@ -8,6 +8,7 @@ use crate::state::Funds;
 use crate::value::unless_zero;
 use market::table::Table;
 use market::trade::{Trade, TradeType};
+use std::array;
 
 // Cash, and a symbol's holding and pending quantity.
 #[derive(Clone, Copy)]
@@ -72,11 +73,8 @@ pub fn settle(funds: Funds, trades: &[Trade]) -> Funds
 pub fn merge(latest: Table, fetched: Table) -> Table
     ensures { result ≡ merge_of latest fetched }
 {
-    let mut l = latest;
-    for (i, row) in fetched.rows.iter().enumerate() {
-        if row.is_some() {
-            l.rows[i] = *row;
-        }
+    Table {
+        rows: array::from_fn(|s| fetched.rows[s].or(latest.rows[s])),
+        fault: latest.fault,
     }
-    l
 }

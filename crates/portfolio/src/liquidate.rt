@@ -38,14 +38,15 @@ fn last_sale(row: Option<Quote>, symbol: u32, rest: f64) -> Part
     }
 }
 
-// Sells positions by symbol until the amount is met.
+// Sells positions by symbol until the amount is met: the walk of document 01, section 5.
 fn sell_positions(p: &Portfolio, amount: f64) -> Sold
     ensures { sold_in result ≡ sales_from (money_of p.now) symbols amount }
 {
     let mut list = OrderList::none();
     let mut rest = amount;
     let mut symbol: u32 = 0;
-    // A `for` cannot be left by `break` with a value, so the symbols are counted by hand.
+    // The walk is left by `break` with the last order and the remaining amount. A `for` cannot be left
+    // with a value, so the symbols are counted by hand.
     let part = loop {
         if symbol > 255 {
             break Part { order: None, rest };

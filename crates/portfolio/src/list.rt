@@ -4,7 +4,8 @@ ghost use Rattle.portfolio.specs.Lists.{no_orders, with_order, listed};
 
 use market::order::Order;
 
-// Orders that a liquidation or the weights list: the first `count`, in fixed memory.
+// Orders that a liquidation or the weights list: the first `count`, in fixed memory, since the engine
+// allocates nothing. A list is copied with what holds it, and the type of `arrayvec` is not `Copy`.
 #[derive(Clone, Copy)]
 pub struct OrderList {
     pub orders: [Order; 256],

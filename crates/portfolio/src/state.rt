@@ -6,9 +6,10 @@ ghost use Rattle.portfolio.specs.State.{no_funds, held_at};
 use costs::TradeCosts;
 use market::table::Table;
 
-// A symbol is held where its holding is not 0.0. A pending sum of zero stays present. The two arrays
-// stand side by side in fixed memory, since the engine allocates nothing: each is one of the Rust's
-// maps by symbol, with a place for every symbol.
+// A symbol is held where its holding is not 0.0, as the rule says: with an `Option` there,
+// `Some(0.0)` would be a second way to say that nothing is held. A pending sum of zero stays present.
+// The two arrays stand side by side in fixed memory, since the engine allocates nothing: each is one
+// of the Rust's maps by symbol, with a place for every symbol, and values read the holdings alone.
 #[derive(Clone, Copy)]
 pub struct Funds {
     pub holding: [f64; 256],

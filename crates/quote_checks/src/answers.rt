@@ -2,7 +2,8 @@
 use market::fault::Fault;
 use market::quote::Quote;
 use std::io;
-use vendor::on_arrays::{read_on, write_on};
+use vendor::on_arrays::read_on;
+use vendor::quote_lines::write_lines;
 
 // One form for both: the number, the count that is answered, and what a list holds.
 fn print_line(rt: &impl Print, answer: Result<usize, Fault>, held: usize) -> io::Result<()> {
@@ -24,27 +25,20 @@ fn left(out: &[u8], at: usize) -> usize {
     out.iter().skip(at).filter(|b| **b == b'#').count()
 }
 
-// Writes the first `n` rows to a buffer that is full of `#`. The rows are an array with its count
-// beside it, as `write_on` takes them.
-fn print_written_to(
-    rt: &impl Print,
-    rows: [Quote; 257],
-    n: usize,
-    out: &mut [u8],
-) -> io::Result<()> {
-    let answer = write_on(rows, n, out);
+// Writes the rows to a buffer that is full of `#`.
+fn print_written_to(rt: &impl Print, rows: &[Quote], out: &mut [u8]) -> io::Result<()> {
+    let answer = write_lines(rows, out);
     let bytes = answer.unwrap_or(0);
     print_line(rt, answer, left(out, bytes))?;
     // No bytes are written where more are answered than the buffer has.
     rt.write_all(out.get(..bytes).unwrap_or(b""))
 }
 
-// Writes the first `n` rows, an array with its count beside it as above, to a buffer of `room` bytes,
-// at most 15,105.
-pub fn print_written(rt: &impl Print, rows: [Quote; 257], n: usize, room: usize) -> io::Result<()> {
+// Writes the rows to a buffer of `room` bytes, at most 15,105.
+pub fn print_written(rt: &impl Print, rows: &[Quote], room: usize) -> io::Result<()> {
     let mut out = [b'#'; 15105];
     match out.get_mut(..room) {
-        Some(lent) => print_written_to(rt, rows, n, lent),
+        Some(lent) => print_written_to(rt, rows, lent),
         None => Ok(()),
     }
 }
@@ -55,7 +49,7 @@ pub fn print_read(rt: &impl Print, text: &[u8], rows: usize, bytes: usize) -> io
     let x = read_on(text, rows);
     print_line(rt, x.answer, filled(&x.rows))?;
     match x.answer {
-        Ok(n) => print_written(rt, x.rows, n, bytes),
+        Ok(n) => print_written(rt, &x.rows[..n.min(257)], bytes),
         Err(_) => Ok(()),
     }
 }

@@ -9,9 +9,11 @@ ghost use Rattle.quotes.specs.Printed.{number_line, printed_of};
 use numerals::spelled::decimal_text;
 use std::io;
 use std::io::Read;
-use vendor::on_arrays::{read_on, write_on};
+use vendor::on_arrays::read_on;
+use vendor::quote_lines::write_lines;
 
-// Puts a number on a line at the start of `out`, and answers how many bytes that is.
+// Puts a number on a line at the start of `out`, and answers how many bytes that is. What is written
+// stands in the buffer that is lent, as the rows' text does: there is no heap here.
 fn put_number(n: u64, out: &mut [u8]) -> usize
     requires { 20 < length out.old }
     ensures { (result ≡ length (number_line n)) × (out.new ≡ over (number_line n) out.old) }
@@ -32,14 +34,14 @@ fn printed(input: &[u8], out: &mut [u8]) -> usize
     let x = read_on(input, 256);
     match x.answer {
         // Rows that were read draw nothing where they are written.
-        Ok(n) => write_on(x.rows, n, out).unwrap_or(0),
+        Ok(n) => write_lines(&x.rows[..n.min(257)], out).unwrap_or(0),
         Err(fault) => put_number(fault.number() as u64, out),
     }
 }
 
 // Reads until `buf` is full or the input ends, and answers how many bytes came. A read that fails
 // counts as the end. No method of the library says how many bytes came before that, so the loop counts
-// them.
+// them; `read_to_end` needs a `Vec`, and there is no heap here.
 fn read_full(reader: &mut impl Read, buf: &mut [u8]) -> usize
     ensures { result ≤ length buf.new }
 {

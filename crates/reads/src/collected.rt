@@ -35,11 +35,7 @@ pub(crate) fn store<T: Copy>(rows: &[Option<T>], list: &mut [T])
     requires { length (gather holds rows.now) ≤ length list.old }
     ensures { list.new ≡ over (gather holds rows.now) list.old }
 {
-    let mut n = 0;
-    for row in rows {
-        if let Some(row) = row {
-            list[n] = *row;
-            n += 1;
-        }
+    for (n, row) in rows.iter().copied().flatten().enumerate() {
+        list[n] = row;
     }
 }

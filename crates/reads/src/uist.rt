@@ -24,7 +24,8 @@ pub fn get_positions(broker: UistBroker, positions: &mut [u32]) -> Result<usize,
     answer(broker, &rows, positions)
 }
 
-// How much is held of each symbol that is.
+// How much is held of each symbol that is. This and the pending quantities below have a reader each:
+// another field, and another rule for zero; what they share is `Holding::of` and `answer`.
 pub fn get_holdings(broker: UistBroker, holdings: &mut [Holding]) -> Result<usize, Fault>
     ensures { AnswersList broker (holding_rows (money_of broker.portfolio)) holdings.old result holdings.new }
 {

@@ -20,8 +20,8 @@ pub enum Want {
 }
 
 // May it be left out? A word that is not it is then of what comes next.
-pub(crate) fn is_optional(want: Option<Want>) -> bool {
-    want == Some(Want::Lot)
+pub(crate) fn is_optional(want: Want) -> bool {
+    want == Want::Lot
 }
 
 // The one of these at the place `k`.

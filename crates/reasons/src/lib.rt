@@ -7,7 +7,7 @@ pub mod wrong;
 
 use calls::verb;
 use calls::verb::Verb;
-use words::word;
+use form::Want;
 use wrong::Why;
 
 // The word of the line that is wrong, the call's name being the first, and the reason.
@@ -17,7 +17,7 @@ pub struct Reason {
     pub why: Why,
 }
 
-// A line that does not fit.
+// A line that does not fit: no word of it is wrong, which 0 tells (docs/SCENARIOS.md).
 pub fn too_long() -> Reason {
     Reason {
         word: 0,
@@ -25,120 +25,101 @@ pub fn too_long() -> Reason {
     }
 }
 
-// Where the reading of a line stands: at the fixed word of this number, or, behind the last of them, in
-// the list of this number, behind `count` rows.
+// Where the reading of a line stands: at the fixed word of the number `k`, which has to be what `want`
+// says, or, behind the last of them, in the list of the number `list`, behind `count` rows.
 #[derive(Clone, Copy)]
-struct Place {
-    verb: Verb,
-    fixed: usize,
-    list: usize,
-    count: usize,
+enum Place {
+    Word { k: usize, want: Want },
+    Row { list: usize, count: usize },
 }
 
-// The place behind a fixed word.
-fn behind_fixed(p: Place) -> Place {
-    let mut q = p;
-    q.fixed = if p.fixed < 3 { p.fixed + 1 } else { 3 };
-    q
-}
-
-// The place at which a word is read: behind an optional word that it is not.
-fn place_of(p: Place, w: &[u8]) -> Place {
-    let verb = p.verb;
-    if !form::is_optional(form::fixed(verb, p.fixed)) || wrong::is_lot(w) {
-        return p;
+impl Place {
+    // The fixed word of this number; behind the last of them the first list.
+    fn fixed(verb: Verb, k: usize) -> Place {
+        match form::fixed(verb, k) {
+            Some(want) => Place::Word { k, want },
+            None => Place::Row { list: 0, count: 0 },
+        }
     }
-    behind_fixed(p)
-}
 
-fn is_slash(w: &[u8]) -> bool {
-    word::is_name(w, b"/")
+    // The place at which a word is read: behind an optional word that it is not.
+    fn of_word(self, verb: Verb, w: &[u8]) -> Place {
+        match self {
+            Place::Word { k, want } if form::is_optional(want) && !wrong::is_lot(w) => {
+                Place::fixed(verb, k.saturating_add(1))
+            }
+            _ => self,
+        }
+    }
+
+    // What is wrong with the word at this place.
+    fn wrong(self, verb: Verb, w: &[u8], rows: u64) -> Result<(), Why> {
+        match self {
+            Place::Word { want, .. } => wrong::wrong(want, w, rows),
+            Place::Row { list, count } => wrong_row(verb, list, count, w, rows),
+        }
+    }
+
+    // The place behind a word with which nothing is wrong.
+    fn behind(self, verb: Verb, w: &[u8]) -> Place {
+        match self {
+            Place::Word { k, .. } => Place::fixed(verb, k.saturating_add(1)),
+            Place::Row { list, .. } if ends_list(verb, list, w) => Place::Row {
+                list: list.saturating_add(1),
+                count: 0,
+            },
+            Place::Row { list, count } => Place::Row {
+                list,
+                count: count.saturating_add(1),
+            },
+        }
+    }
 }
 
 // Is the word the `/` that ends this list, before another one?
-fn ends_list(p: Place, w: &[u8]) -> bool {
-    let verb = p.verb;
-    let more = p.list < 2 && form::row(verb, p.list + 1).is_some();
-    more && is_slash(w)
+fn ends_list(verb: Verb, list: usize, w: &[u8]) -> bool {
+    matches!(w, b"/") && form::row(verb, list.saturating_add(1)).is_some()
 }
 
-// What is wrong with a word of a list.
-fn wrong_row(p: Place, w: &[u8], rows: u64) -> Result<(), Why> {
-    let want = form::row(p.verb, p.list).ok_or(Why::TooManyWords)?;
-    if ends_list(p, w) {
+// What is wrong with a word of a list, behind so many rows.
+fn wrong_row(verb: Verb, list: usize, count: usize, w: &[u8], rows: u64) -> Result<(), Why> {
+    let want = form::row(verb, list).ok_or(Why::TooManyWords)?;
+    if ends_list(verb, list, w) {
         return Ok(());
     }
-    if p.count >= form::most(want) {
+    if count >= form::most(want) {
         return Err(Why::TooManyRows);
     }
     wrong::wrong(want, w, rows)
 }
 
-// What is wrong with the word at this place.
-fn wrong_at(p: Place, w: &[u8], rows: u64) -> Result<(), Why> {
-    match form::fixed(p.verb, p.fixed) {
-        Some(want) => wrong::wrong(want, w, rows),
-        None => wrong_row(p, w, rows),
+// The reason for a malformed line, for a program whose log has so many rows: the first word behind the
+// call's name that is wrong; where there is none, one is missing.
+pub fn of_line(line: &[u8], rows: u64) -> Reason {
+    let mut words = line.split(|b| *b == b' ').filter(|w| !w.is_empty());
+    let name = words.next().unwrap_or(b"");
+    let verb = verb::named(name);
+    if verb == Verb::Malformed {
+        return Reason {
+            word: 1,
+            why: wrong::marked(name, Why::UnknownCall),
+        };
     }
-}
-
-// The place behind a word with which nothing is wrong.
-fn behind(p: Place, w: &[u8]) -> Place {
-    let verb = p.verb;
-    if form::fixed(verb, p.fixed).is_some() {
-        return behind_fixed(p);
-    }
-    let mut q = p;
-    if ends_list(p, w) {
-        q.list = if p.list < 2 { p.list + 1 } else { 2 };
-        q.count = 0;
-        return q;
-    }
-    q.count = if p.count < 1100 { p.count + 1 } else { 1100 };
-    q
-}
-
-// The first word behind the call's name that is wrong; where there is none, one is missing.
-fn wrong_behind(line: &[u8], at: usize, verb: Verb, rows: u64) -> Reason {
-    let mut p = Place {
-        verb,
-        fixed: 0,
-        list: 0,
-        count: 0,
-    };
-    let mut i = at;
+    let mut place = Place::fixed(verb, 0);
     let mut n: u64 = 2;
-    for _turn in 0..line.len() {
-        let (w, next) = word::first_at(line, i);
-        if w.is_empty() {
-            break;
-        }
-        p = place_of(p, w);
-        if let Err(why) = wrong_at(p, w, rows) {
+    for w in words {
+        place = place.of_word(verb, w);
+        if let Err(why) = place.wrong(verb, w, rows) {
             return Reason {
                 word: n,
                 why: wrong::marked(w, why),
             };
         }
-        p = behind(p, w);
-        i = next;
-        n = if n < 65536 { n + 1 } else { n };
+        place = place.behind(verb, w);
+        n = n.saturating_add(1);
     }
     Reason {
         word: n,
         why: Why::TooFewWords,
     }
-}
-
-// The reason for a malformed line, for a program whose log has so many rows.
-pub fn of_line(line: &[u8], rows: u64) -> Reason {
-    let (w, next) = word::first_at(line, 0);
-    let verb = verb::named(w);
-    if verb == Verb::Malformed {
-        return Reason {
-            word: 1,
-            why: wrong::marked(w, Why::UnknownCall),
-        };
-    }
-    wrong_behind(line, next, verb, rows)
 }

@@ -29,9 +29,10 @@ fn tell_unknown(err: &impl Print, word: &[u8]) -> io::Result<()> {
     err.write_all(b"` is no argument (`large` is one, and `--help`)\n")
 }
 
-// Is the stack's limit at least so many kilobytes? Else this is told.
+// Is the stack's limit at least so many kilobytes? Else this is told. A limit that is not known counts
+// as 0.
 fn is_room(rt: &(impl Files + Alloc + Eprint), kilobytes: u64) -> bool {
-    let room = limits::stack(rt) / 1024;
+    let room = limits::stack(rt).unwrap_or(0) / 1024;
     if room < kilobytes {
         let _ = eprintln!(rt;
             "rehearse: the stack's limit is {room} KB, and this run needs {kilobytes} KB: ulimit -s {kilobytes}"
@@ -61,12 +62,9 @@ fn asked_by(
 // How many arguments there are, the program's name among them; 3 where there are more.
 fn arg_count(rt: &impl Env) -> usize {
     let mut word = [0; 4096];
-    for i in 0..3 {
-        if let Err(FillError::NotPresent) = rt.arg(i, &mut word) {
-            return i;
-        }
-    }
-    3
+    (0..3)
+        .find(|i| matches!(rt.arg(*i, &mut word), Err(FillError::NotPresent)))
+        .unwrap_or(3)
 }
 
 // The run that the arguments ask for.

@@ -22,6 +22,7 @@ pub fn first_rows<T: Copy>(answer: Result<usize, Fault>, rows: &[T]) -> Form<Res
     Form(answer.map(|count| &rows[..count.min(rows.len())]))
 }
 
+// A number as it is: what an answer or a list holds is written by its `Form`, so it has one.
 impl fmt::Display for Form<u32> {
     fn fmt<W: fmt::Write>(&self, f: &mut fmt::Formatter<W>) -> fmt::Result {
         let x = self.0;
@@ -29,6 +30,7 @@ impl fmt::Display for Form<u32> {
     }
 }
 
+// As above.
 impl fmt::Display for Form<u64> {
     fn fmt<W: fmt::Write>(&self, f: &mut fmt::Formatter<W>) -> fmt::Result {
         let x = self.0;
@@ -109,6 +111,8 @@ impl fmt::Display for Form<Quote> {
     }
 }
 
+// The side's words are the scenario's. The program `two_ticks` has the same words for a text of its own:
+// it does not use this crate, and `market` does not say how a trade is written.
 impl fmt::Display for Form<Trade> {
     fn fmt<W: fmt::Write>(&self, f: &mut fmt::Formatter<W>) -> fmt::Result {
         let trade = self.0;
@@ -142,6 +146,7 @@ impl fmt::Display for Form<BrokerCost> {
     }
 }
 
+// Two values, as an update's answer is (answer.rt), which has a word before them.
 impl fmt::Display for Form<Impact> {
     fn fmt<W: fmt::Write>(&self, f: &mut fmt::Formatter<W>) -> fmt::Result {
         let budget = Form(self.0.budget);
@@ -159,6 +164,7 @@ impl fmt::Display for Form<BrokerState> {
     }
 }
 
+// A text as it is: an answer's text is written by its `Form`, as every answer is.
 impl fmt::Display for Form<&str> {
     fn fmt<W: fmt::Write>(&self, f: &mut fmt::Formatter<W>) -> fmt::Result {
         let text = self.0;

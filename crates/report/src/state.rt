@@ -27,10 +27,10 @@ impl<W: Write> State<'_, W> {
         )
     }
 
-    fn held(&mut self) -> io::Result<()> {
-        write!(self.out, " held")?;
-        for (symbol, x) in self.broker.portfolio.funds.holding.iter().enumerate() {
-            if *x != 0.0 {
+    // The rest of a line of symbols, each with its amount where it has one.
+    fn amounts(&mut self, amounts: &[Option<f64>]) -> io::Result<()> {
+        for (symbol, amount) in amounts.iter().enumerate() {
+            if let Some(x) = amount {
                 let x = Form(*x);
                 write!(self.out, " {symbol}:{x}")?;
             }
@@ -38,15 +38,16 @@ impl<W: Write> State<'_, W> {
         writeln!(self.out)
     }
 
+    fn held(&mut self) -> io::Result<()> {
+        write!(self.out, " held")?;
+        let holding = self.broker.portfolio.funds.holding;
+        self.amounts(&holding.map(|x| (x != 0.0).then_some(x)))
+    }
+
     fn pending(&mut self) -> io::Result<()> {
         write!(self.out, " pending")?;
-        for (symbol, quantity) in self.broker.portfolio.funds.pending.iter().enumerate() {
-            if let Some(x) = quantity {
-                let x = Form(*x);
-                write!(self.out, " {symbol}:{x}")?;
-            }
-        }
-        writeln!(self.out)
+        let broker = self.broker;
+        self.amounts(&broker.portfolio.funds.pending)
     }
 
     fn latest(&mut self) -> io::Result<()> {

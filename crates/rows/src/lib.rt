@@ -11,30 +11,22 @@ use market::vendor_quote::VendorQuote;
 use market::weight::Weight;
 use words::{number, word};
 
-// `mb`, `ms`, `lb`, `ls`, `sb` or `ss`. Each name is tested as a whole: a match on the names opens a
-// case for each of their bytes, and its proof was not found.
+// The names of the kinds.
+const KINDS: [([u8; 2], OrderType); 6] = [
+    (*b"mb", OrderType::MarketBuy),
+    (*b"ms", OrderType::MarketSell),
+    (*b"lb", OrderType::LimitBuy),
+    (*b"ls", OrderType::LimitSell),
+    (*b"sb", OrderType::StopBuy),
+    (*b"ss", OrderType::StopSell),
+];
+
+// The kind of this name.
 fn kind(s: &[u8]) -> Option<OrderType>
     ensures { result ≡ kind_of s.now }
 {
-    if word::is_name(s, b"mb") {
-        return Some(OrderType::MarketBuy);
-    }
-    if word::is_name(s, b"ms") {
-        return Some(OrderType::MarketSell);
-    }
-    if word::is_name(s, b"lb") {
-        return Some(OrderType::LimitBuy);
-    }
-    if word::is_name(s, b"ls") {
-        return Some(OrderType::LimitSell);
-    }
-    if word::is_name(s, b"sb") {
-        return Some(OrderType::StopBuy);
-    }
-    if word::is_name(s, b"ss") {
-        return Some(OrderType::StopSell);
-    }
-    None
+    let named = KINDS.iter().find(|kind| word::is_name(s, &kind.0))?;
+    Some(named.1)
 }
 
 // A float, or `-` for no price.
@@ -129,7 +121,8 @@ pub fn weight(w: &[u8]) -> Option<Weight>
     Some(Weight { symbol, weight })
 }
 
-// The cost of this name and amount; the names are tested as those of the kinds.
+// The cost of this name and amount. The names are tested in turn: each makes a cost of the amount, so
+// that a table of them, as that of the kinds, would hold functions.
 fn cost_named(name: &[u8], x: f64) -> Option<BrokerCost>
     ensures { result ≡ cost_named name.now x }
 {

@@ -2,13 +2,14 @@
 ghost use Rattle.std.specs.Prelude.{◌≤◌};
 
 use crate::show;
-use crate::view::{View, is_call};
+use crate::view::View;
 use arrays::clock;
 use broker::state::UistBroker;
 use calls::call::Call;
 use calls::verb::Verb;
 use costs::TradeCosts;
 use dispatch::{Job, list_calls, log_calls, plain_calls};
+use market::order::Order;
 use market::table::ReadTable;
 use market::trade::Trade;
 use report::answer::Reply;
@@ -51,24 +52,22 @@ impl<R: CpuClock, W: Write> Session<'_, R, W> {
         writeln!(self.out, " {reply}")
     }
 
-    // A liquidation or an insertion. The brokers that they leave take much of the stack, so they are no
-    // part of the frame that the other lines have.
+    // A liquidation. The broker that it leaves takes much of the stack, so it is no part of the frame
+    // that the other lines have.
     #[inline(never)]
-    fn sell_or_insert(
-        &mut self,
-        from: Option<u64>,
-        b: &mut UistBroker,
-        c: &Call,
-    ) -> io::Result<()> {
-        if matches!(c.verb, Verb::Liquidate) {
-            let x = b.withdraw_cash_with_liquidation(c.amount);
-            self.reply(from, Reply::Cash(x.event))?;
-            *b = x.broker;
-        } else {
-            let x = b.insert_order(c.order);
-            self.reply(from, Reply::Event(x.event))?;
-            *b = x.broker;
-        }
+    fn liquidate(&mut self, from: Option<u64>, b: &mut UistBroker, amount: f64) -> io::Result<()> {
+        let x = b.withdraw_cash_with_liquidation(amount);
+        self.reply(from, Reply::Cash(x.event))?;
+        *b = x.broker;
+        Ok(())
+    }
+
+    // An insertion, in a frame of its own for the same reason.
+    #[inline(never)]
+    fn insert(&mut self, from: Option<u64>, b: &mut UistBroker, order: Order) -> io::Result<()> {
+        let x = b.insert_order(order);
+        self.reply(from, Reply::Event(x.event))?;
+        *b = x.broker;
         Ok(())
     }
 
@@ -129,12 +128,15 @@ impl<R: CpuClock, W: Write> Session<'_, R, W> {
                 let reason = Form(line.reason(log.len()));
                 writeln!(self.out, " {reason}")
             }
-            Verb::Liquidate | Verb::Insert => self.sell_or_insert(from, b, c),
+            Verb::Liquidate => self.liquidate(from, b, c.amount),
+            Verb::Insert => self.insert(from, b, c.order),
             Verb::Delete => self.delete(from, b, c.whole),
-            _ if !is_call(c) => self.view.set(&mut self.out, c),
             _ if log_calls::needs_log(c) => self.log_call(b, line.bytes(), c, log),
             _ if list_calls::is_listed(c) => self.list_call(b, line.bytes(), c),
-            _ => self.reply(from, plain_calls::ask(b, c)),
+            _ => match plain_calls::ask(b, c) {
+                Some(reply) => self.reply(from, reply),
+                None => self.view.set(&mut self.out, c),
+            },
         }
     }
 

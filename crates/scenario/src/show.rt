@@ -14,8 +14,9 @@ fn bases(state: &mut State<'_, impl Write>, v: &View, log: &[Trade]) -> io::Resu
     if state.turnover.is_err() {
         return Ok(());
     }
-    for symbol in 0..256u32 {
-        if v.traded[symbol as usize] {
+    for (symbol, has_traded) in v.traded.iter().enumerate() {
+        if *has_traded {
+            let symbol = symbol as u32;
             let basis = uist::cost_basis(*state.broker, log, symbol);
             state.basis(symbol, basis)?;
         }

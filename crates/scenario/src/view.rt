@@ -23,7 +23,7 @@ pub struct View {
 }
 
 // Is this a call on a broker?
-pub fn is_call(c: &Call) -> bool {
+fn is_call(c: &Call) -> bool {
     !matches!(
         c.verb,
         Verb::Blank
@@ -68,7 +68,8 @@ impl View {
         self.micros = self.micros.saturating_add(micros);
     }
 
-    // A line that makes no call is answered.
+    // A line that makes no call is answered. What is left in the last case is `state`: one more, for the
+    // calls, would never be taken.
     pub fn set(&mut self, out: &mut impl Write, c: &Call) -> io::Result<()> {
         match c.verb {
             Verb::Lend => {

@@ -2,12 +2,10 @@
 // its symbol's pending quantity.
 #![tactic(auto)]
 
-ghost use Rattle.std.specs.Prelude.{◌≡◌, ◌++◌, Some};
-ghost use Rattle.market.specs.Faults.{drawn};
-ghost use Rattle.market.specs.Orders.{event_of, order_tests};
+ghost use Rattle.std.specs.Prelude.{◌≡◌, Some};
+ghost use Rattle.market.specs.Orders.{event_of};
 ghost use Rattle.rules.specs.Money.{unless_zero};
-ghost use Rattle.rules.specs.Sends.{exceeds_cash, exceeds_holding, send_tests_at};
-ghost use Rattle.exchange.specs.State.{room_of};
+ghost use Rattle.rules.specs.Sends.{exceeds_cash, exceeds_holding};
 ghost use Rattle.sender.specs.Sender.{event_at, pending_after};
 
 pub mod sound;
@@ -54,42 +52,36 @@ fn exceeds_holding(o: Order, holding: f64) -> bool
     !(holding >= o.shares)
 }
 
-// What an order draws in a broker that does not draw 16: 1, 2 and 4 to 11.
-#[tactic(auto, unfolding(market::specs::Faults::drawn))]
-fn send_fault(o: Order, failed: bool, cash: f64, x: AtSymbol, counts: Counts) -> Option<Fault>
-    ensures { result ≡ drawn (order_tests o ++ send_tests_at failed cash x.quote (unless_zero x.holding) o ++ room_of counts) }
-{
-    if let Some(fault) = o.fault() {
-        return Some(fault);
-    }
-    // One test among the others: Failed has no value beside it.
-    if failed {
-        return Some(Fault::BrokerFailed);
-    }
-    let Some(q) = x.quote else {
-        return Some(Fault::Unquoted);
-    };
-    if !o.is_market() {
-        return Some(Fault::NotMarket);
-    }
-    if exceeds_cash(o, cash, q) {
-        return Some(Fault::ExceedsCash);
-    }
-    if exceeds_holding(o, x.holding) {
-        return Some(Fault::ExceedsHolding);
-    }
-    if o.shares == 0.0 {
-        return Some(Fault::ZeroShares);
-    }
-    counts.room_fault()
-}
-
-// The event of an order in such a broker.
-#[tactic(auto, unfolding(crate::specs::Sender::event_at))]
+// The event of an order in a broker that does not draw 16: 1, 2, 4 to 11, or none. What its tests read
+// is passed alone, since each comes from another part of a broker, which by value would be copied. (01
+// names the form: the quote is taken apart by `let .. else`, the else returning the event.)
+#[tactic(auto, unfolding(crate::specs::Sender::event_at, market::specs::Faults::drawn))]
 pub fn send_event(o: Order, failed: bool, cash: f64, x: AtSymbol, counts: Counts) -> OrderEvent
     ensures { result ≡ event_at o failed cash x counts }
 {
-    event(o, send_fault(o, failed, cash, x, counts))
+    if let Some(fault) = o.fault() {
+        return event(o, Some(fault));
+    }
+    // One test among the others: Failed has no value beside it.
+    if failed {
+        return event(o, Some(Fault::BrokerFailed));
+    }
+    let Some(q) = x.quote else {
+        return event(o, Some(Fault::Unquoted));
+    };
+    if !o.is_market() {
+        return event(o, Some(Fault::NotMarket));
+    }
+    if exceeds_cash(o, cash, q) {
+        return event(o, Some(Fault::ExceedsCash));
+    }
+    if exceeds_holding(o, x.holding) {
+        return event(o, Some(Fault::ExceedsHolding));
+    }
+    if o.shares == 0.0 {
+        return event(o, Some(Fault::ZeroShares));
+    }
+    event(o, counts.room_fault())
 }
 
 // A symbol's pending quantity with an order's effect.

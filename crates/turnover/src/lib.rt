@@ -8,7 +8,7 @@ ghost use Rattle.turnover.specs.Turnover.{no_sums, add_sums, turnover_sums, less
 use market::trade::{Trade, TradeType};
 
 // The values bought and the values sold so far.
-#[derive(Clone, Copy)]
+#[derive(Clone, Copy, Default)]
 pub struct Sums {
     pub bought: f64,
     pub sold: f64,
@@ -19,10 +19,7 @@ impl Sums {
     pub fn none() -> Sums
         ensures { result ≡ no_sums }
     {
-        Sums {
-            bought: 0.0,
-            sold: 0.0,
-        }
+        Sums::default()
     }
 
     // A buy's value joins the bought sum, a sale's the sold one.

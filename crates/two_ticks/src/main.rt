@@ -20,6 +20,8 @@ fn quoted(bid: f64, ask: f64, date: i64) -> ReadTable {
     }])
 }
 
+// `report` has the same two words, for a scenario's text; to use that crate for them would bring in the
+// broker and all that it shows.
 fn print_trade(rt: &impl Print, t: Trade) -> io::Result<()> {
     let kind = match t.typ {
         TradeType::Buy => "buy",

@@ -1,6 +1,6 @@
 // Numbers as text: whole numbers, signed ones, and floats by the digits of their bits.
 ghost use Rattle.std.specs.Prelude.{◌≡◌};
-ghost use Rattle.words.specs.Numbers.{digit_in, with_digit, whole_of, symbol_of, positive_of, negated_of, signed_of, float_of};
+ghost use Rattle.words.specs.Numbers.{digit_in, decimal_digit, with_digit, whole_of, symbol_of, positive_of, negated_of, signed_of, float_of};
 
 use std::num::f64_from_bits_with_nan;
 
@@ -16,14 +16,18 @@ pub fn digit(byte: u8) -> Option<u64>
     }
 }
 
+// The value of a decimal digit.
+pub fn decimal_digit(byte: u8) -> Option<u64>
+    ensures { result ≡ decimal_digit byte }
+{
+    digit(byte).filter(|d| *d < 10)
+}
+
 // The number with one more decimal digit, where it fits.
 fn with_digit(n: u64, byte: u8) -> Option<u64>
     ensures { result ≡ with_digit n byte }
 {
-    let d = digit(byte)?;
-    if d > 9 {
-        return None;
-    }
+    let d = decimal_digit(byte)?;
     n.checked_mul(10)?.checked_add(d)
 }
 

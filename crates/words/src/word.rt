@@ -10,7 +10,7 @@ pub struct Word {
 }
 
 // Where the first byte at or after `at` is that is `byte`, or with `is` false another one; the text's
-// end where there is no such byte.
+// end where there is no such byte. A closure in the place of `is` would ask something of callers.
 pub fn next(s: &[u8], at: usize, byte: u8, is: bool) -> usize
     ensures { result ≡ place (is_byte byte is) s.now at }
 {
@@ -21,7 +21,8 @@ pub fn next(s: &[u8], at: usize, byte: u8, is: bool) -> usize
     }
 }
 
-// The word at or after `at`; it is empty at the line's end.
+// The word at or after `at`; it is empty at the line's end. A line and a place are passed apart here, since
+// who reads on keeps the place alone; `calls` has both in one struct.
 pub fn word_at(line: &[u8], at: usize) -> Word
     ensures { result ≡ word_at line.now at }
 {
@@ -54,7 +55,7 @@ pub fn part(w: &[u8], k: usize) -> &[u8]
     w.split(|b| *b == b':').nth(k).unwrap_or(&[])
 }
 
-// Are the bytes those of `name`?
+// Are the bytes those of `name`? A `==` with the clause that the readers of names are proved by.
 pub fn is_name(w: &[u8], name: &[u8]) -> bool
     ensures { result ≡ same_bytes w.now name.now }
 {

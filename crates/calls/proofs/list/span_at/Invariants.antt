@@ -6,7 +6,7 @@ use Rattle.calls.proofs.Lists.{Passed}
 use Rattle.calls.proofs.list.span_at.Given as goal
 
 abbrev pub invariant-loop-w : goal.invariant-loop-w
-invariant-loop-w l = Passed l.line l.at l.kind l.most l.before l.i l.count
+invariant-loop-w g l = Passed l.line l.at g.R.WordRow.row_of g.R.WordRow.MOST l.before l.i l.count
 
 abbrev pub decreases-loop-w : goal.decreases-loop-w
-decreases-loop-w l = length (words_of (drop l.i l.line))
+decreases-loop-w g l = length (words_of (drop l.i l.line))

@@ -1,6 +1,5 @@
 -- `lot::whole_over` meets its contract: the whole part of a is less than a exactly where something was cut. Assumes nothing.
 use Rattle.std.proofs.Common.{arith}
-use Rattle.floats.proofs.Cut.{holds}
 use Rattle.floats.proofs.Multiples.{whole-more, whole_same}
 use Rattle.floats.proofs.lot.whole_over.Goals as goal
 

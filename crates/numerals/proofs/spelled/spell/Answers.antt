@@ -1,9 +1,7 @@
 -- `spelled::spell` meets its contract: the digits that are still to be stored, on the array as it is, make what is returned. Assumes nothing.
 use Prim.Native.Nat.{◌<◌}
-use mathlib.Core.Path.{◌≡◌, refl, sym, ◌∙◌}
-use native.Mathlib.Nat.{mod-lt}
+use mathlib.Core.Path.{◌≡◌, sym, ◌∙◌}
 use native.Mathlib.Omega.{arith}
-use borrow.Author.Rules.{rules}
 use lib.ListN.{length-set}
 use Rattle.numerals.specs.Numerals.{last_digits}
 use Rattle.numerals.proofs.Stores.{stored-none, stored-digit}

@@ -1,29 +1,18 @@
--- `merge` meets its contract: merging from place i on gives the whole.
-use Prim.Native.Nat.{◌+◌}
-use mathlib.Core.Path.{ap, sym, ◌∙◌}
-use native.Mathlib.Omega.{arith}
-use lib.ListN.{length, length-set}
-use Rattle.market.specs.declared.table.Table.{Table}
-use Rattle.portfolio.proofs.Settling.{each_from, merged, puts-one, keeps-one}
+-- `merge` meets its contract: each row that the closure makes is that of its symbol.
+use Rattle.std.proofs.Common.{rules, ◌≡◌, List, length, ap, get_or}
+use Rattle.std.specs.declared.option.Option.{Option}
+use Rattle.std.specs.declared.option.Option.TheVariants.{None}
+use Rattle.std.specs.Option.{option_or}
+use Rattle.market.specs.declared.quote.Quote.{Quote}
+use Rattle.portfolio.specs.Booking.{merge_of}
+use Rattle.portfolio.proofs.Settling.{made, merged}
 use Rattle.portfolio.proofs.booking.merge.Goals as goal
-use Rattle.portfolio.proofs.booking.merge.Goals.{then-is_some, else-is_some}
 
-pub loop-i-preserved : goal.loop-i-preserved
-loop-i-preserved c = elim c.if-is_some.branch [
-  | then-is_some w ↦ record {
-    wide = ap (λ (t : Table). length t.rows) w.l-is ∙ length-set c.loop-i.l.rows c.loop-i.i _ ∙ c.loop-i.invariant.wide;
-    fault = ap (λ (t : Table). t.fault) w.l-is ∙ c.loop-i.invariant.fault;
-    left =
-        ap (λ (t : Table). each_from (merged c.args.fetched.rows) (c.loop-i.i + 1) t.rows) w.l-is
-        ∙ puts-one c.args.fetched.rows c.loop-i.l.rows c.loop-i.i (omega (arith, c.loop-i.invariant.wide, c.loop-i-test.true)) (sym c.is_some.ensures ∙ w.if-is_some.true)
-        ∙ c.loop-i.invariant.left;
-  }
-  | else-is_some w ↦ record {
-    wide = ap (λ (t : Table). length t.rows) w.l-is ∙ c.loop-i.invariant.wide;
-    fault = ap (λ (t : Table). t.fault) w.l-is ∙ c.loop-i.invariant.fault;
-    left =
-        ap (λ (t : Table). each_from (merged c.args.fetched.rows) (c.loop-i.i + 1) t.rows) w.l-is
-        ∙ keeps-one c.args.fetched.rows c.loop-i.l.rows c.loop-i.i (omega (arith, c.loop-i.invariant.wide, c.loop-i-test.true)) (sym c.is_some.ensures ∙ w.if-is_some.false)
-        ∙ c.loop-i.invariant.left;
-  }
-]
+pub returns : goal.returns
+unfolding merge_of
+returns c =
+    let wide : length c.args.latest.rows ≡ 256 = search rules in
+    let items = c.from_fn.ensures.items in
+    ap (λ (l : List (Option Quote)). record { rows = l; fault = c.args.latest.fault })
+    (merged c.args.fetched.rows c.args.latest.rows c.from_fn.result wide items.long
+    (λ j h. made _ (λ s. option_or (get_or c.args.fetched.rows s None) (get_or c.args.latest.rows s None)) _ _ (λ s r q h k. search rules) items j None h))

@@ -16,7 +16,10 @@ pub side_onto-requires : goal.side_onto-requires
 side_onto-requires c = onto-few _ _ _ c.side_onto-sales.ensures
 
 pub returns : goal.returns
-returns c =
-    ap listed (c.side_onto.ensures ∙ ap (λ (l : OrderList). onto_of l (of_side false (listed c.args.list.now)))
-    (c.side_onto-sales.ensures ∙ ap (λ (l : OrderList). onto_of l (of_side true (listed c.args.list.now))) c.none.ensures))
-    ∙ sides-listed c.args.list.now (search rules)
+returns c = record {
+  sorted =
+      ap listed (c.side_onto.ensures ∙ ap (λ (l : OrderList). onto_of l (of_side false (listed c.args.list.now)))
+      (c.side_onto-sales.ensures ∙ ap (λ (l : OrderList). onto_of l (of_side true (listed c.args.list.now))) c.none.ensures))
+      ∙ sides-listed c.args.list.now (search rules);
+  few = onto-few _ _ _ c.side_onto.ensures;
+}

@@ -3,8 +3,6 @@ use Rattle.std.proofs.Common.{◌≡◌, take, length}
 use Rattle.lists.specs.Lists.{over, gather, holds}
 use Rattle.reads.proofs.collected.store.Given as goal
 
-abbrev pub invariant-loop-row : goal.invariant-loop-row
-invariant-loop-row g l = record {
-  count : l.n ≡ length (gather holds (take l.row-index l.rows));
-  list : l.list ≡ over (gather holds (take l.row-index l.rows)) l.initial.list;
-}
+abbrev pub invariant-loop-n : goal.invariant-loop-n
+invariant-loop-n g l =
+    (l.list ≡ over (take (length l.yielded) (gather holds l.rows)) l.initial.list)
