@@ -61,6 +61,7 @@ pub struct Orders {
     pub room: usize,
 }
 
+// (Why this and the two like it are functions stands at `lend`.)
 #[tactic(auto, unfolding(crate::specs::Arrays::blank_events))]
 fn no_events() -> [OrderEvent; 1024]
     ensures { result ≡ blank_events }

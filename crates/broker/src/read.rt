@@ -36,6 +36,8 @@ impl UistBroker {
         self.fault().or((!finite).then_some(Fault::BadValue))
     }
 
+    // Each read below has the Rust's name and a clause of its own; all answer by `ok_unless`.
+
     // The latest quote of a symbol.
     pub fn get_quote(self, symbol: u32) -> Result<Option<Quote>, Fault>
         ensures { result ≡ ok_unless (symbol_fault self symbol) (quote_of self symbol) }

@@ -54,7 +54,7 @@ impl UistBroker {
         e
     }
 
-    // Sends orders one after the other. Their events, in the first places.
+    // Sends orders one after the other. Their events, in the first places: a walk lists no more than 256.
     #[tactic(auto, using(crate::proofs::Sending::sent_next, crate::proofs::Sending::told_next, crate::proofs::Sending::sent_fits), unfolding(crate::specs::Send::events_of))]
     pub(crate) fn send_all(&mut self, orders: &[Order]) -> [OrderEvent; 256]
         requires fits { SendsFit self.old.exchange.counts }

@@ -38,7 +38,7 @@ pub struct Updated {
 }
 
 impl UistBroker {
-    // 16, 15, then what the rows draw.
+    // 16, 15, then what the rows draw. The two tables are passed apart, as to a check.
     #[tactic(auto, using(crate::proofs::Updating::first_of), unfolding(crate::specs::Update::update_fault))]
     fn update_fault(
         &self,

@@ -6,7 +6,7 @@ ghost use Rattle.std.specs.Prelude.{◌≡◌, drop};
 ghost use Rattle.std.specs.Option.{option_copied};
 ghost use Rattle.words.specs.Words.{words_of};
 ghost use Rattle.calls.specs.Lists.{is_empty, only_of};
-ghost use Rattle.calls.specs.Calls.{no_span, plain_call, heard, heard_or, said, lot_at, room_of, said_alone, said_whole, said_log, said_symbol, said_amount, said_order, said_room, said_quantity, said_side, said_new, said_check, said_walk, said_orders, said_correct, said_update, said_as};
+ghost use Rattle.calls.specs.Calls.{plain_call, heard, heard_or, said, lot_at, room_of, said_alone, said_whole, said_log, said_symbol, said_amount, said_order, said_room, said_quantity, said_side, said_new, said_check, said_walk, said_orders, said_correct, said_update, said_as};
 
 use crate::list::Span;
 use crate::verb::Verb;
@@ -41,21 +41,10 @@ pub struct Call {
     pub vendors: Span,
 }
 
-// (`Default` would be the same under another name than the definition's.)
-fn no_span() -> Span
-    ensures { result ≡ no_span }
-{
-    Span {
-        at: 0,
-        count: 0,
-        next: 0,
-    }
-}
-
 pub fn plain(verb: Verb) -> Call
     ensures { result ≡ plain_call verb }
 {
-    let none = no_span();
+    let none = Span::default();
     Call {
         verb,
         log: 0,

@@ -19,7 +19,7 @@ use words::word;
 
 // A list: where its first word is looked for, how many rows it has, and where the words after it
 // are looked for.
-#[derive(Clone, Copy)]
+#[derive(Clone, Copy, Default)]
 pub struct Span {
     pub at: usize,
     pub count: usize,
@@ -148,7 +148,8 @@ pub fn span_at<R: WordRow>(line: &[u8], at: usize, before: bool) -> Option<Span>
 {
     let mut i = at;
     let mut count: usize = 0;
-    // No index ends it: the word that is read does, as a `/` or as the empty one of the line's end.
+    // No index ends it: a word does that is a `/`, or the empty one of the line's end, or no such row, or one
+    // too many.
     loop {
         let (w, next) = word::first_at(line, i);
         let slash = is_slash(w);
@@ -215,7 +216,7 @@ pub fn vendors(line: &[u8], span: Span) -> [VendorQuote; 1100]
     rows(line, span)
 }
 
-// The words of a span as costs.
+// The words of a span as costs: no array, since `TradeCosts` says how many there were past its places too.
 pub fn costs(line: &[u8], span: Span) -> TradeCosts
     ensures { result ≡ read_costs span.count (words_of (drop span.at line.now)) }
 {

@@ -4,6 +4,8 @@ ghost use Rattle.calls.specs.Verbs.{named_or, verb_in, symbol_readers, room_read
 
 use words::word;
 
+// What a line asks for. A blank line and a malformed one ask for nothing and are cases all the same, since a
+// run tells the one from the other and from each call.
 #[derive(Clone, Copy, PartialEq)]
 pub enum Verb {
     Blank,

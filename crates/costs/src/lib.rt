@@ -110,7 +110,8 @@ impl TradeCosts {
 }
 
 // What the costs leave of a budget and a price, one after the other, for values that are worked out
-// inside: nothing is tested. A broker's `trade_impact_total` draws its numbers first.
+// inside: nothing is tested. A broker's `trade_impact_total` draws its numbers first. Budget and price go
+// apart, as in the Rust's call of that name.
 #[tactic(auto, unfolding(crate::specs::Costs::trade_impact_total))]
 pub fn net_of_costs(costs: TradeCosts, gross_budget: f64, gross_price: f64, is_buy: bool) -> Impact
     ensures { result ≡ trade_impact_total (costs_of costs) gross_budget gross_price is_buy }

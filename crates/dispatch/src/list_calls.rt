@@ -64,7 +64,7 @@ impl<R: CpuClock, W: Write> Job<'_, R, W> {
             Verb::GetHoldings => self.answer(from, &rows(&read::holdings_on(*b, room))),
             Verb::GetPendingOrders => self.answer(from, &rows(&read::pending_on(*b, room))),
             Verb::GetQuotes => self.answer(from, &rows(&read::quotes_on(*b, room))),
-            // `get_trade_costs`: `on_lists` is asked for no other verb.
+            // `get_trade_costs`: `on_lists` sends no other verb here.
             _ => self.answer(from, &rows(&read::costs_on(*b, room))),
         }
     }

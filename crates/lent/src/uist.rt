@@ -23,7 +23,7 @@ use turnover::Sums;
 
 // How many orders traded, how many sells were queued, and what was drawn: a check that is refused
 // answers the broker too, so this is no `Result`. Both counts are 0 then. A `Result` of the two beside
-// the broker would be a struct more, and a contract by cases where each part now has its equation; the
+// the broker would be a struct more, and a contract by cases where each part now has its clause; the
 // ledger's answer has its parts side by side as well.
 #[derive(Clone, Copy)]
 pub struct CheckAnswer {

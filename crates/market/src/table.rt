@@ -55,7 +55,8 @@ impl Table {
     }
 }
 
-// The table with these rows put in.
+// The table with these rows put in. What it asks, its one caller has of rows that were read: they ascend
+// below 256.
 fn placed(rows: &[Quote]) -> Table
     requires { All (λ q. q.symbol < 256) rows.now }
     ensures { result ≡ foldl put_row empty_table rows.now }

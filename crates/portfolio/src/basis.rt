@@ -6,20 +6,16 @@ ghost use Rattle.portfolio.specs.Basis.{basis_in, no_basis};
 use market::trade::{Trade, TradeType};
 
 // A symbol's quantity and value so far.
-#[derive(Clone, Copy)]
+#[derive(Clone, Copy, Default)]
 pub struct Basis {
     pub quantity: f64,
     pub value: f64,
 }
 
-// (`Default` would be the same under another name than the rule's.)
 pub fn no_basis() -> Basis
     ensures { basis_in result ≡ no_basis }
 {
-    Basis {
-        quantity: 0.0,
-        value: 0.0,
-    }
+    Basis::default()
 }
 
 // Quantity zero clears value.

@@ -13,7 +13,7 @@ use vendor::on_arrays::read_on;
 use vendor::quote_lines::write_lines;
 
 // Puts a number on a line at the start of `out`, and answers how many bytes that is. What is written
-// stands in the buffer that is lent, as the rows' text does: there is no heap here.
+// stands in the buffer that is lent, as the rows' text does: this program uses no heap.
 fn put_number(n: u64, out: &mut [u8]) -> usize
     requires { 20 < length out.old }
     ensures { (result ≡ length (number_line n)) × (out.new ≡ over (number_line n) out.old) }
@@ -41,7 +41,7 @@ fn printed(input: &[u8], out: &mut [u8]) -> usize
 
 // Reads until `buf` is full or the input ends, and answers how many bytes came. A read that fails
 // counts as the end. No method of the library says how many bytes came before that, so the loop counts
-// them; `read_to_end` needs a `Vec`, and there is no heap here.
+// them; `read_to_end` needs a `Vec`, and this program uses no heap.
 fn read_full(reader: &mut impl Read, buf: &mut [u8]) -> usize
     ensures { result ≤ length buf.new }
 {

@@ -11,7 +11,7 @@ pub struct Holding {
 }
 
 impl Holding {
-    // The row of a symbol.
+    // The row of a symbol, which is a place among 256.
     pub(crate) fn of(symbol: usize, quantity: f64) -> Holding
         requires { symbol < 256 }
         ensures { result ≡ holding_of symbol quantity }

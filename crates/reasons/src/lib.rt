@@ -106,6 +106,7 @@ pub fn of_line(line: &[u8], rows: u64) -> Reason {
         };
     }
     let mut place = Place::fixed(verb, 0);
+    // Counted by hand, since the place behind the last word is told too.
     let mut n: u64 = 2;
     for w in words {
         place = place.of_word(verb, w);

@@ -61,7 +61,7 @@ impl fmt::Display for Form<Checked> {
     }
 }
 
-// A word of its own stands before the values, which are of other types than an impact's (form.rt).
+// A word of its own stands before the values, which an impact's form (form.rt) has not.
 impl fmt::Display for Form<Updated<'_>> {
     fn fmt<W: fmt::Write>(&self, f: &mut fmt::Formatter<W>) -> fmt::Result {
         let total = Form(self.0.total);

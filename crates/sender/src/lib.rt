@@ -53,7 +53,7 @@ fn exceeds_holding(o: Order, holding: f64) -> bool
 }
 
 // The event of an order in a broker that does not draw 16: 1, 2, 4 to 11, or none. What its tests read
-// is passed alone, since each comes from another part of a broker, which by value would be copied. (01
+// is passed alone: the funds or the broker that they come from would be copied. (01
 // names the form: the quote is taken apart by `let .. else`, the else returning the event.)
 #[tactic(auto, unfolding(crate::specs::Sender::event_at, market::specs::Faults::drawn))]
 pub fn send_event(o: Order, failed: bool, cash: f64, x: AtSymbol, counts: Counts) -> OrderEvent
