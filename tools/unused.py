@@ -63,9 +63,11 @@ def part_used(part, tokens):
 
 def brought(m):
     """The names that an import brings in: those of its list, or the whole module's."""
+    last = re.split(r"\.|::", m.group("path"))[-1]
     if m.group("names") is not None:
-        return listed(m.group("names"))
-    return [m.group("whole") or re.split(r"\.|::", m.group("path"))[-1]]
+        # `self` in a list brings in the module itself.
+        return [last if name == "self" else name for name in listed(m.group("names"))]
+    return [m.group("whole") or last]
 
 
 def unused(text, imports, used):
