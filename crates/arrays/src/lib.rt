@@ -63,7 +63,7 @@ pub struct Orders {
 
 // (Why this and the two like it are functions stands at `lend`.)
 #[tactic(auto, unfolding(crate::specs::Arrays::blank_events))]
-fn no_events() -> [OrderEvent; 1024]
+pub fn no_events() -> [OrderEvent; 1024]
     ensures { result ≡ blank_events }
 {
     let order = Order::blank();
@@ -72,7 +72,7 @@ fn no_events() -> [OrderEvent; 1024]
 }
 
 #[tactic(auto, unfolding(crate::specs::Arrays::blank_orders))]
-fn no_orders() -> [Order; 1024]
+pub fn no_orders() -> [Order; 1024]
     ensures { result ≡ blank_orders }
 {
     [Order::blank(); 1024]
@@ -132,8 +132,8 @@ pub fn send_on(b: UistBroker, x: &Orders) -> Lent<After<UistBroker>, [OrderEvent
 }
 
 // The walk alone; past the entries lent the array of orders stays blank.
-pub fn walk_on(b: UistBroker, x: &Lists) -> Lent<Result<usize, Fault>, [Order; 1024]>
-    ensures { AnswersWalk b (weights_in x.now) (lent_of x.now.room blank_orders) result.answer (lent_of x.now.room result.list) × (past_lent x.now.room result.list ≡ past_lent x.now.room blank_orders) }
+pub fn walk_on(b: &UistBroker, x: &Lists) -> Lent<Result<usize, Fault>, [Order; 1024]>
+    ensures { AnswersWalk b.now (weights_in x.now) (lent_of x.now.room blank_orders) result.answer (lent_of x.now.room result.list) × (past_lent x.now.room result.list ≡ past_lent x.now.room blank_orders) }
 {
     let weights = &x.weights[..x.third.min(512)];
     lend(no_orders(), x.room, |orders| {

@@ -1,4 +1,5 @@
 -- The laws that the functions' proofs cite.
+pub mod Drawing
 pub mod Sending
 pub mod Selling
 pub mod Settling

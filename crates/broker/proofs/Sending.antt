@@ -25,7 +25,7 @@ use Rattle.market.specs.declared.order.Order.{Order}
 use Rattle.market.specs.declared.quote.Quote.{Quote}
 use Rattle.market.proofs.Faults.{append-none, none-drawn, test-holds}
 use Rattle.exchange.specs.State.{room_of}
-use Rattle.exchange.specs.Insert.{taken_one, join_of}
+use Rattle.exchange.specs.Insert.{taken_one, try_join_of}
 use Rattle.exchange.specs.declared.state.Counts.{Counts}
 use Rattle.exchange.proofs.Counting.{Sound, room-facts, Free, joining, joins}
 use Rattle.floats.specs.Lots.{is_lot}
@@ -138,8 +138,24 @@ pub fits_here : (b : UistBroker) (o : Order) → SendsFit b.exchange.counts → 
 fits_here b o s z = one-fits b.exchange.counts s (room-drawn b o z)
 
 -- and joins the orders that wait, at that place
-pub joins_here : (b : UistBroker) (o : Order) → SendsFit b.exchange.counts → (event_for b o).fault ≡ None → join_of b.exchange.counts ≡ Some (joining b.exchange.counts)
+pub joins_here : (b : UistBroker) (o : Order) → SendsFit b.exchange.counts → (event_for b o).fault ≡ None → try_join_of b.exchange.counts ≡ Some (joining b.exchange.counts)
 joins_here b o s z = joins b.exchange.counts (fits_here b o s z)
+
+-- no fewer orders are taken after sends than before, and at most one more for each order sent
+pub taken-grows : (b : UistBroker) (l : List Order) → b.exchange.counts.taken ≤ (sent_all b l).exchange.counts.taken
+taken-grows b l = sent-all-keeps (λ c. b.exchange.counts.taken ≤ c.taken) (λ c p z. omega arith) b l (omega arith)
+
+one-taken-by : (b : UistBroker) (o : Order) (d : Option Fault) → (unless_drawn d (taken_by b o) b).exchange.counts.taken ≤ b.exchange.counts.taken + 1
+one-taken-by b o None = omega arith
+one-taken-by b o (Some f) = omega arith
+
+one-taken : (b : UistBroker) (o : Order) → (sent_one b o).exchange.counts.taken ≤ b.exchange.counts.taken + 1
+unfolding sent_one
+one-taken b o = one-taken-by b o (event_for b o).fault
+
+pub sent-taken : (b : UistBroker) (l : List Order) → (sent_all b l).exchange.counts.taken ≤ b.exchange.counts.taken + length l
+sent-taken b [] = omega arith
+sent-taken b (o ∷ l) = omega (arith, sent-taken (sent_one b o) l, one-taken b o)
 
 -- ---- the loops that send a list
 

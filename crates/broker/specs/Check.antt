@@ -19,6 +19,7 @@ use Rattle.broker.specs.Cash.{cash_of}
 use Rattle.broker.specs.Liquidate.{sales_of, liquidated_by}
 use Rattle.portfolio.specs.declared.state.Funds.{Funds}
 use Rattle.broker.specs.declared.state.UistBroker.{UistBroker}
+use Rattle.broker.specs.declared.check.Settled.{Settled}
 use Rattle.broker.specs.declared.check.Checked.{Checked}
 
 -- ---- a shortfall
@@ -64,6 +65,18 @@ booked_by b t f =
 
 unfoldable pub checked_by : UistBroker → Table → Table → UistBroker
 checked_by b t f = rescued_by (booked_by b t f)
+
+-- a check in place: the state, and what it comes to beside it
+abbrev pub checked_with : UistBroker → Settled → Checked
+checked_with b x = record { broker = b; trades = x.trades; count = x.count; first = x.first; queued = x.queued; fault = x.fault }
+
+-- a check that is refused comes to no trades, of which the first places are those of its tick
+pub record Refuses (b : UistBroker) (t : Table) (fault : Option Fault) (r : Settled) : Type 0 where
+  pub trades : r.trades ≡ (tick_of b.exchange t).trades
+  pub count : r.count ≡ 0
+  pub first : r.first ≡ 0
+  pub queued : r.queued ≡ 0
+  pub drawn : r.fault ≡ fault
 
 -- a check that draws nothing acts; one that draws something changes nothing. The trades are those of its tick, in the first `count` places
 pub record Checks (b : UistBroker) (t f : Table) (n : ℕ) (r : Checked) : Type 0 where

@@ -66,6 +66,10 @@ pub record SendsFit (c : Counts) : Type 0 where
   pub places : c.resting + c.waits ≤ 1024
   pub rows : c.taken ≤ c.room
 
+-- a send in place: the broker, and the event beside it
+abbrev pub sent_with : UistBroker → OrderEvent → Told OrderEvent
+sent_with b e = record { broker = b; event = e }
+
 -- 16, then the order's own event
 unfoldable pub send_of : UistBroker → Order → Told OrderEvent
 send_of b o =

@@ -19,6 +19,7 @@ use Rattle.market.specs.Weights.{weighed}
 use Rattle.broker.specs.declared.state.UistBroker.{UistBroker}
 use Rattle.market.specs.declared.weight.Weights.{Weights}
 use Rattle.broker.specs.declared.update.Lengths.{Lengths}
+use Rattle.broker.specs.declared.update.Rebalanced.{Rebalanced}
 use Rattle.broker.specs.declared.update.Updated.{Updated}
 
 -- 16, 15, then the rows: tradable, fetched, weights
@@ -34,6 +35,21 @@ plan_after b w = plan_of (money_of b.portfolio) w
 
 unfoldable pub weighed_by : UistBroker → List Weight → UistBroker
 weighed_by b w = sent_all b (plan_after b w).orders
+
+-- an update in place: the state, and what it comes to beside it
+abbrev pub updated_with : UistBroker → Rebalanced → Updated
+updated_with b x =
+    record { broker = b; trades = x.trades; count = x.count; first = x.first; events = x.events; sent = x.sent; total = x.total; fault = x.fault }
+
+-- an update that is refused comes to no trades, of which the first places are those of the check's tick, and to no events
+pub record RefusesUpdate (b : UistBroker) (t : Table) (fault : Option Fault) (r : Rebalanced) : Type 0 where
+  pub trades : r.trades ≡ (tick_of b.exchange t).trades
+  pub count : r.count ≡ 0
+  pub first : r.first ≡ 0
+  pub events : r.events ≡ no_events
+  pub sent : r.sent ≡ 0
+  pub total : r.total ≡ zero64
+  pub drawn : r.fault ≡ fault
 
 -- d is what is drawn before it acts; then what the plan draws, with which the check stands
 pub record Updates (b : UistBroker) (t f : Table) (w : Weights) (x : Lengths) (d : Option Fault) (r : Updated) : Type 0 where

@@ -1,10 +1,11 @@
 // A check: ticks, takes the fetched quotes, books the trades, and liquidates a shortfall.
 ghost use Rattle.std.specs.Prelude.{◌≡◌};
 ghost use Rattle.broker.specs.Send.{SendsFit};
-ghost use Rattle.broker.specs.Check.{check_fault, Rescues, Checks};
+ghost use Rattle.broker.specs.Check.{check_fault, Rescues, Refuses, checked_with, Checks};
 
 use crate::state::UistBroker;
-use market::fault::{Fault, unless_drawn};
+use exchange::tick::Traded;
+use market::fault::Fault;
 use market::table::ReadTable;
 use market::trade::Trade;
 use portfolio::booking;
@@ -17,6 +18,16 @@ use portfolio::booking;
 #[derive(Clone, Copy)]
 pub struct Checked {
     pub broker: UistBroker,
+    pub trades: [Trade; 1024],
+    pub count: usize,
+    pub first: usize,
+    pub queued: usize,
+    pub fault: Option<Fault>,
+}
+
+// What a check in place comes to beside the state, which it changes: as in `Checked`.
+#[derive(Clone, Copy)]
+pub struct Settled {
     pub trades: [Trade; 1024],
     pub count: usize,
     pub first: usize,
@@ -60,28 +71,72 @@ impl UistBroker {
             .or(fetched.fault())
     }
 
-    // A check on tables that were read, for a log of this length. The two are passed apart: orders trade
-    // on the one, and the other becomes the latest quotes.
+    // What a check that is refused comes to: nothing is changed, and the trades are those of its tick.
+    #[inline(never)]
+    fn refused_check(&self, tradable: &ReadTable, fault: Option<Fault>) -> Settled
+        ensures { Refuses self.now tradable.now.table fault result }
+    {
+        let mut exchange = self.exchange;
+        let Traded { trades, .. } = exchange.tick_in_place(tradable);
+        Settled {
+            trades,
+            count: 0,
+            first: 0,
+            queued: 0,
+            fault,
+        }
+    }
+
+    // A check in place on tables that were read, for a log of this length. The two are passed apart:
+    // orders trade on the one, and the other becomes the latest quotes.
     #[tactic(auto, using(crate::proofs::Settling::tick_acts, crate::proofs::Settling::fits_ticked, crate::proofs::Settling::listed_trades), unfolding(crate::specs::Check::checked_by))]
+    pub fn check_in_place(
+        &mut self,
+        tradable: &ReadTable,
+        fetched: &ReadTable,
+        log_length: usize,
+    ) -> Settled
+        ensures { Checks self.old tradable.now.table fetched.now.table log_length (checked_with self.new result) }
+    {
+        let fault = self.check_fault(tradable, fetched, log_length);
+        if fault.is_some() {
+            return self.refused_check(tradable, fault);
+        }
+        let Traded {
+            trades,
+            count,
+            first,
+            ..
+        } = self.exchange.tick_in_place(tradable);
+        let portfolio = &mut self.portfolio;
+        booking::merge_in(&mut portfolio.latest, fetched.as_table());
+        booking::settle_in(&mut portfolio.funds, &trades[..count.min(1024)]);
+        let queued = self.rebalance_cash();
+        Settled {
+            trades,
+            count,
+            first,
+            queued,
+            fault,
+        }
+    }
+
+    // The same, by value.
     pub fn check(mut self, tradable: ReadTable, fetched: ReadTable, log_length: usize) -> Checked
         ensures { Checks self tradable.table fetched.table log_length result }
     {
-        let fault = self.check_fault(&tradable, &fetched, log_length);
-        let x = self.exchange.tick(tradable);
-        let trades = x.trades;
-        let mut queued = 0;
-        if fault.is_none() {
-            let portfolio = &mut self.portfolio;
-            portfolio.latest = booking::merge(portfolio.latest, fetched.table());
-            portfolio.funds = booking::settle(portfolio.funds, &trades[..x.count.min(1024)]);
-            self.exchange = x.exchange;
-            queued = self.rebalance_cash();
-        }
+        let Settled {
+            trades,
+            count,
+            first,
+            queued,
+            fault,
+        } = self.check_in_place(&tradable, &fetched, log_length);
         Checked {
             broker: self,
             trades,
-            count: unless_drawn(fault, x.count, 0),
-            first: unless_drawn(fault, x.first, 0),
+            count,
+            first,
             queued,
             fault,
         }

@@ -1,11 +1,11 @@
 // Sends: an order goes to the exchange, and pending moves.
 ghost use Rattle.std.specs.Prelude.{◌≡◌, ◌≤◌, length};
 ghost use Rattle.lists.specs.Lists.{over};
-ghost use Rattle.broker.specs.Send.{no_events, SendsFit, event_for, sent_one, sent_all, events_of, send_of, insert_of, delete_of};
+ghost use Rattle.broker.specs.Send.{no_events, SendsFit, event_for, sent_one, sent_all, events_of, sent_with, send_of, insert_of, delete_of};
 
 use crate::state::{Told, UistBroker};
 use exchange::state::Booked;
-use market::fault::After;
+use market::fault::{After, Fault};
 use market::order::{Order, OrderEvent};
 use sender;
 use sender::AtSymbol;
@@ -45,7 +45,7 @@ impl UistBroker {
         if e.fault.is_some() {
             return e;
         }
-        if let Some(join) = counts.join() {
+        if let Some(join) = counts.try_join() {
             self.exchange.book[join.at] = Booked::waiting(o);
             self.exchange.counts = join.counts;
             let pending = sender::pending_after(o, self.portfolio.funds.pending[at]);
@@ -85,59 +85,69 @@ impl UistBroker {
         taken
     }
 
+    // A send in place: the event.
     #[tactic(auto, unfolding(market::specs::Faults::drawn, crate::specs::Send::send_of))]
+    pub fn send_in_place(&mut self, order: Order) -> OrderEvent
+        ensures { sent_with self.new result ≡ send_of self.old order }
+    {
+        let fault = self.fault();
+        if fault.is_some() {
+            return sender::event(order, fault);
+        }
+        self.send_one(order)
+    }
+
+    // The same, by value.
     pub fn send_order(mut self, order: Order) -> Told<OrderEvent>
         ensures { result ≡ send_of self order }
     {
-        let fault = self.fault();
-        let event = if fault.is_some() {
-            sender::event(order, fault)
-        } else {
-            self.send_one(order)
-        };
+        let event = self.send_in_place(order);
         Told {
             broker: self,
             event,
         }
     }
 
-    // A direct insertion: pending is kept.
+    // A direct insertion in place: pending is kept.
     #[tactic(auto, unfolding(market::specs::Faults::drawn, crate::specs::Send::insert_of))]
-    pub fn insert_order(self, order: Order) -> Told<OrderEvent>
-        ensures { result ≡ insert_of self order }
+    pub fn insert_in_place(&mut self, order: Order) -> OrderEvent
+        ensures { sent_with self.new result ≡ insert_of self.old order }
     {
         let fault = self.fault();
         if fault.is_some() {
-            return Told {
-                broker: self,
-                event: sender::event(order, fault),
-            };
+            return sender::event(order, fault);
         }
-        let inserted = self.exchange.insert_order(order);
+        sender::event(order, self.exchange.insert_in_place(order))
+    }
+
+    // The same, by value.
+    pub fn insert_order(mut self, order: Order) -> Told<OrderEvent>
+        ensures { result ≡ insert_of self order }
+    {
+        let event = self.insert_in_place(order);
         Told {
-            broker: UistBroker {
-                exchange: inserted.state,
-                ..self
-            },
-            event: sender::event(order, inserted.fault),
+            broker: self,
+            event,
         }
     }
 
+    // A deletion in place: what it draws.
     #[tactic(auto, unfolding(market::specs::Faults::drawn, crate::specs::Send::delete_of))]
-    pub fn delete_order(self, order_id: u64) -> After<UistBroker>
-        ensures { result ≡ delete_of self order_id }
+    pub fn delete_in_place(&mut self, order_id: u64) -> Option<Fault>
+        ensures { delete_of self.old order_id ≡ record { state = self.new; fault = result } }
     {
         let fault = self.fault();
         if fault.is_some() {
-            return After { state: self, fault };
+            return fault;
         }
-        let deleted = self.exchange.delete_order(order_id);
-        After {
-            state: UistBroker {
-                exchange: deleted.state,
-                ..self
-            },
-            fault: deleted.fault,
-        }
+        self.exchange.delete_in_place(order_id)
+    }
+
+    // The same, by value.
+    pub fn delete_order(mut self, order_id: u64) -> After<UistBroker>
+        ensures { result ≡ delete_of self order_id }
+    {
+        let fault = self.delete_in_place(order_id);
+        After { state: self, fault }
     }
 }

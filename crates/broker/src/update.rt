@@ -1,10 +1,12 @@
 // An update: a check, the walk over weights, and the sends of its orders.
 ghost use Rattle.std.specs.Prelude.{◌≡◌};
-ghost use Rattle.broker.specs.Update.{update_fault, Updates};
+ghost use Rattle.broker.specs.Update.{update_fault, RefusesUpdate, updated_with, Updates};
 
+use crate::check::Settled;
 use crate::lender::list_fault;
 use crate::send;
 use crate::state::UistBroker;
+use exchange::tick::Traded;
 use market::fault::Fault;
 use market::order::OrderEvent;
 use market::table::ReadTable;
@@ -37,6 +39,18 @@ pub struct Updated {
     pub fault: Option<Fault>,
 }
 
+// What an update in place comes to beside the state, which it changes: as in `Updated`.
+#[derive(Clone, Copy)]
+pub struct Rebalanced {
+    pub trades: [Trade; 1024],
+    pub count: usize,
+    pub first: usize,
+    pub events: [OrderEvent; 256],
+    pub sent: usize,
+    pub total: f64,
+    pub fault: Option<Fault>,
+}
+
 impl UistBroker {
     // 16, 15, then what the rows draw. The two tables are passed apart, as to a check.
     #[tactic(auto, using(crate::proofs::Updating::first_of), unfolding(crate::specs::Update::update_fault))]
@@ -56,12 +70,69 @@ impl UistBroker {
             .or(weights.fault())
     }
 
-    // An update on tables and weights that were read. One that is refused changes nothing, and its
-    // trades are those of the check's tick. Past the refusals there is one way through, with 13, 18 or
-    // neither: a return between would cost copies of all the state.
+    // What an update that is refused comes to: nothing is changed, and the trades are those of the
+    // check's tick.
+    #[inline(never)]
+    fn refused_update(&self, tradable: &ReadTable, fault: Option<Fault>) -> Rebalanced
+        ensures { RefusesUpdate self.now tradable.now.table fault result }
+    {
+        let mut exchange = self.exchange;
+        let Traded { trades, .. } = exchange.tick_in_place(tradable);
+        let events = send::no_events();
+        Rebalanced {
+            trades,
+            count: 0,
+            first: 0,
+            events,
+            sent: 0,
+            total: 0.0,
+            fault,
+        }
+    }
+
+    // An update in place on tables and weights that were read. The two tables are passed apart, as to a
+    // check. With 13 or 18 the check stands, and no order is sent.
     #[tactic(auto, using(crate::proofs::Updating::check_draws_none, crate::proofs::Updating::sends_fit))]
+    pub fn update_in_place(
+        &mut self,
+        tradable: &ReadTable,
+        fetched: &ReadTable,
+        weights: &Weights,
+        x: Lengths,
+    ) -> Rebalanced
+        ensures { Updates self.old tradable.now.table fetched.now.table weights.now x (update_fault self.old x tradable.now.table.fault fetched.now.table.fault weights.now.fault) (updated_with self.new result) }
+    {
+        let refused = self.update_fault(tradable, fetched, weights, x);
+        if refused.is_some() {
+            return self.refused_update(tradable, refused);
+        }
+        let Settled {
+            trades,
+            count,
+            first,
+            ..
+        } = self.check_in_place(tradable, fetched, x.log);
+        let portfolio = &self.portfolio;
+        let (list, total, fault) = match portfolio.diff_against_target_weights(weights) {
+            Ok(list) => (list, portfolio.get_total_value(), None),
+            Err(fault) => (OrderList::none(), 0.0, Some(fault)),
+        };
+        let orders = list.orders();
+        let events = self.send_all(orders);
+        Rebalanced {
+            trades,
+            count,
+            first,
+            events,
+            sent: orders.len(),
+            total,
+            fault,
+        }
+    }
+
+    // The same, by value.
     pub fn update(
-        self,
+        mut self,
         tradable: ReadTable,
         fetched: ReadTable,
         weights: Weights,
@@ -69,36 +140,22 @@ impl UistBroker {
     ) -> Updated
         ensures { Updates self tradable.table fetched.table weights x (update_fault self x tradable.table.fault fetched.table.fault weights.fault) result }
     {
-        let fault = self.update_fault(&tradable, &fetched, &weights, x);
-        let mut checked = self.check(tradable, fetched, x.log);
-        let trades = checked.trades;
-        if fault.is_some() {
-            let events = send::no_events();
-            return Updated {
-                broker: self,
-                trades,
-                count: 0,
-                first: 0,
-                events,
-                sent: 0,
-                total: 0.0,
-                fault,
-            };
-        }
-        let portfolio = &checked.broker.portfolio;
-        let (list, total, fault) = match portfolio.diff_against_target_weights(&weights) {
-            Ok(list) => (list, portfolio.get_total_value(), None),
-            Err(fault) => (OrderList::none(), 0.0, Some(fault)),
-        };
-        let orders = list.orders();
-        let events = checked.broker.send_all(orders);
-        Updated {
-            broker: checked.broker,
+        let Rebalanced {
             trades,
-            count: checked.count,
-            first: checked.first,
+            count,
+            first,
             events,
-            sent: orders.len(),
+            sent,
+            total,
+            fault,
+        } = self.update_in_place(&tradable, &fetched, &weights, x);
+        Updated {
+            broker: self,
+            trades,
+            count,
+            first,
+            events,
+            sent,
             total,
             fault,
         }

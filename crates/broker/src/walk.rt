@@ -11,12 +11,12 @@ impl UistBroker {
     // The walk on weights that were read of `rows` rows, for a list of `room` orders.
     #[tactic(auto, unfolding(crate::specs::Walk::walk_fault))]
     pub fn diff_against_target_weights(
-        self,
+        &self,
         weights: Weights,
         rows: usize,
         room: usize,
     ) -> Result<OrderList, Fault>
-        ensures plan { Walks self weights rows room result }
+        ensures plan { Walks self.now weights rows room result }
         ensures few { IfOk result (λ list. list.count ≤ 256) }
     {
         if let Some(fault) = self.lender_fault(rows, room).or(weights.fault()) {

@@ -141,10 +141,11 @@ fn is_slash(w: &[u8]) -> bool
     word::is_name(w, b"/")
 }
 
-// The list of such rows that starts at `at`, where a `/` ends it, or with `before` false the line's
-// end: a fact of where the list stands, which only its last word is held against.
-pub fn span_at<R: WordRow>(line: &[u8], at: usize, before: bool) -> Option<Span>
-    ensures { spanned line.now result ≡ list_of R.row_of R.MOST before (words_of (drop at line.now)) }
+// The list of such rows that starts at `at`, of `most` rows at most, where a `/` ends it, or with
+// `before` false the line's end: a fact of where the list stands, which only its last word is held
+// against.
+pub fn span_within<R: WordRow>(line: &[u8], at: usize, most: usize, before: bool) -> Option<Span>
+    ensures { spanned line.now result ≡ list_of R.row_of most before (words_of (drop at line.now)) }
 {
     let mut i = at;
     let mut count: usize = 0;
@@ -159,7 +160,7 @@ pub fn span_at<R: WordRow>(line: &[u8], at: usize, before: bool) -> Option<Span>
             }
             return Some(Span { at, count, next });
         }
-        if count >= R::MOST {
+        if count >= most {
             return None;
         }
         // The word is read as a row to see that it is one.
@@ -167,6 +168,13 @@ pub fn span_at<R: WordRow>(line: &[u8], at: usize, before: bool) -> Option<Span>
         count += 1;
         i = next;
     }
+}
+
+// The same, of as many rows at most as a list of them has.
+pub fn span_at<R: WordRow>(line: &[u8], at: usize, before: bool) -> Option<Span>
+    ensures { spanned line.now result ≡ list_of R.row_of R.MOST before (words_of (drop at line.now)) }
+{
+    span_within::<R>(line, at, R::MOST, before)
 }
 
 // The words of a span, at most `N`, as rows, and blank ones behind them.

@@ -75,6 +75,10 @@ listed-wins rows w k =
     same-gather (λ s. given (stands_at w s) [] (λ r. quote_of r ∷ [])) (λ s. given (winner rows s) [] (λ r. quote_of r ∷ [])) 0 256 256
     (λ s h. ap (λ (o : Option VendorQuote). given o [] (λ r. quote_of r ∷ [])) (k.wins s h)) (omega arith)
 
+none-corrected : corrected_of [] ≡ []
+unfolding corrected_of
+none-corrected = refl
+
 -- ---- what is answered
 
 module _ (room : ℕ) (rows : List VendorQuote) where

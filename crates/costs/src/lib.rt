@@ -109,21 +109,33 @@ impl TradeCosts {
     }
 }
 
-// What the costs leave of a budget and a price, one after the other, for values that are worked out
-// inside: nothing is tested. A broker's `trade_impact_total` draws its numbers first. Budget and price go
-// apart, as in the Rust's call of that name.
+// What the costs leave of a budget and a price, one after the other.
 #[tactic(auto, unfolding(crate::specs::Costs::trade_impact_total))]
-pub fn net_of_costs(costs: TradeCosts, gross_budget: f64, gross_price: f64, is_buy: bool) -> Impact
-    ensures { result ≡ trade_impact_total (costs_of costs) gross_budget gross_price is_buy }
+fn net_of(costs: &[BrokerCost], gross: Impact, is_buy: bool) -> Impact
+    ensures { result ≡ trade_impact_total costs.now gross.budget gross.price is_buy }
 {
-    let mut net = Impact {
-        budget: gross_budget,
-        price: gross_price,
-    };
-    for cost in costs.costs() {
+    let mut net = gross;
+    for cost in costs {
         net = cost.trade_impact(net, is_buy);
     }
     net
+}
+
+// The same, for values that are worked out inside: nothing is tested. A broker's `trade_impact_total`
+// draws its numbers first. Budget and price go apart, as in the Rust's call of that name. Without costs
+// nothing is gone over, nor copied: this is asked for each position.
+#[tactic(auto, unfolding(crate::specs::Costs::trade_impact_total, crate::specs::Kept::costs_of))]
+pub fn net_of_costs(costs: TradeCosts, gross_budget: f64, gross_price: f64, is_buy: bool) -> Impact
+    ensures { result ≡ trade_impact_total (costs_of costs) gross_budget gross_price is_buy }
+{
+    let gross = Impact {
+        budget: gross_budget,
+        price: gross_price,
+    };
+    if costs.count == 0 {
+        return gross;
+    }
+    net_of(costs.costs(), gross, is_buy)
 }
 
 // What the costs charge on a trade; nothing is tested. A broker's `calculate_trade_costs` draws its

@@ -2,29 +2,26 @@
 // forms.
 #![tactic(auto)]
 
-mod line_lists;
+pub mod line_lists;
 pub mod list_calls;
 pub mod log_calls;
 pub mod plain_calls;
 
 use arrays::clock;
-use calls::call::Call;
 use std::fmt::Display;
 use std::io;
 use std::io::Write;
 use std::time::CpuClock;
 
-// A line's call, beside the broker and the log: what tells the time, where the answer goes, the line
-// and what it asks for. Each call answers, and says how many microseconds of processor time it took.
+// What makes the call of a line: what tells the time, and where the answer goes. Each call answers, and
+// says how many microseconds of processor time it took.
 #[derive(Drop)]
-pub struct Job<'a, R, W> {
+pub struct Caller<'a, R, W> {
     pub rt: &'a R,
     pub out: &'a mut W,
-    pub line: &'a [u8],
-    pub call: &'a Call,
 }
 
-impl<R: CpuClock, W: Write> Job<'_, R, W> {
+impl<R: CpuClock, W: Write> Caller<'_, R, W> {
     // A call that began at `from` was made, and is answered.
     fn answer(&mut self, from: Option<u64>, answer: &impl Display) -> io::Result<u64> {
         let micros = clock::since(self.rt, from);

@@ -1,5 +1,6 @@
 // The calls that the log is lent to.
-use crate::Job;
+use crate::Caller;
+use crate::line_lists::Job;
 use arrays::clock;
 use broker::state::UistBroker;
 use calls::call::Call;
@@ -22,22 +23,32 @@ pub fn needs_log(c: &Call) -> bool {
     )
 }
 
-impl<R: CpuClock, W: Write> Job<'_, R, W> {
+impl<R: CpuClock, W: Write> Caller<'_, R, W> {
     // Where no broker is made, the one that every call refuses is kept.
-    fn build(&mut self, b: &mut UistBroker, log: &[Trade]) -> io::Result<u64> {
-        let lists = self.lists();
-        let costs = self.costs();
+    #[inline(never)]
+    fn build(&mut self, job: Job<'_>, b: &mut UistBroker, log: &[Trade]) -> io::Result<u64> {
+        let lists = job.lists();
+        let costs = job.costs();
         let from = clock::now(self.rt);
-        let built = arrays::build_on(costs, self.call.lot, &lists, log);
-        let micros = self.answer(from, &Form(built.map(|_| "built")))?;
-        *b = built.unwrap_or(UistBroker::none());
-        Ok(micros)
+        let built = arrays::build_on(costs, job.call.lot, &lists, log);
+        let answer = match built {
+            Ok(broker) => {
+                *b = broker;
+                Ok("built")
+            }
+            Err(fault) => {
+                *b = UistBroker::none();
+                Err(fault)
+            }
+        };
+        self.answer(from, &Form(answer))
     }
 
-    fn check(&mut self, b: &mut UistBroker, log: &mut [Trade]) -> io::Result<u64> {
-        let lists = self.lists();
+    #[inline(never)]
+    fn check(&mut self, job: Job<'_>, b: &mut UistBroker, log: &mut [Trade]) -> io::Result<u64> {
+        let lists = job.lists();
         let timed = arrays::check_on(self.rt, *b, &lists, log);
-        let x = timed.answer;
+        let x = &timed.answer;
         *b = x.broker;
         let checked = Checked {
             traded: x.traded,
@@ -48,10 +59,11 @@ impl<R: CpuClock, W: Write> Job<'_, R, W> {
         Ok(timed.micros)
     }
 
-    fn update(&mut self, b: &mut UistBroker, log: &mut [Trade]) -> io::Result<u64> {
-        let lists = self.lists();
+    #[inline(never)]
+    fn update(&mut self, job: Job<'_>, b: &mut UistBroker, log: &mut [Trade]) -> io::Result<u64> {
+        let lists = job.lists();
         let timed = arrays::update_on(self.rt, *b, &lists, log);
-        let x = timed.answer.answer;
+        let x = &timed.answer.answer;
         *b = x.broker;
         let updated = Updated {
             total: x.total,
@@ -62,27 +74,32 @@ impl<R: CpuClock, W: Write> Job<'_, R, W> {
         Ok(timed.micros)
     }
 
-    fn basis(&mut self, b: &UistBroker, log: &[Trade]) -> io::Result<u64> {
+    #[inline(never)]
+    fn basis(&mut self, job: Job<'_>, b: &UistBroker, log: &[Trade]) -> io::Result<u64> {
         let from = clock::now(self.rt);
-        let basis = uist::cost_basis(*b, log, self.call.symbol);
+        let basis = uist::cost_basis(*b, log, job.call.symbol);
         self.answer(from, &Form(basis))
     }
 
+    #[inline(never)]
     fn turnover(&mut self, b: &UistBroker, log: &[Trade]) -> io::Result<u64> {
         let from = clock::now(self.rt);
         let turnover = uist::turnover(*b, log);
         self.answer(from, &Form(turnover))
     }
 
-    // A call that the log is lent to. Its lists take much of the stack, so they are no part of the frame
-    // that the run has.
-    #[inline(never)]
-    pub fn on_log(&mut self, b: &mut UistBroker, log: &mut [Trade]) -> io::Result<u64> {
-        match self.call.verb {
-            Verb::New => self.build(b, log),
-            Verb::Check => self.check(b, log),
-            Verb::Update => self.update(b, log),
-            Verb::CostBasis => self.basis(b, log),
+    // A call that the log is lent to. Each takes much of the stack, in a frame of its own.
+    pub fn on_log(
+        &mut self,
+        job: Job<'_>,
+        b: &mut UistBroker,
+        log: &mut [Trade],
+    ) -> io::Result<u64> {
+        match job.call.verb {
+            Verb::New => self.build(job, b, log),
+            Verb::Check => self.check(job, b, log),
+            Verb::Update => self.update(job, b, log),
+            Verb::CostBasis => self.basis(job, b, log),
             _ => self.turnover(b, log),
         }
     }

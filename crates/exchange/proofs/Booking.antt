@@ -8,9 +8,8 @@ use Rattle.lists.proofs.Over.{take-over, over-take, over-over}
 use Rattle.market.specs.Orders.{is_sell}
 use Rattle.market.specs.declared.order.Order.{Order}
 use Rattle.exchange.specs.State.{booked_as}
-use Rattle.exchange.specs.Tick.{orders_in, of_side, side_of, next, number_from, counter_after, book_side_of}
+use Rattle.exchange.specs.Tick.{orders_in, of_side, side_of, next, number_from, counter_after, Booking, book_side_of}
 use Rattle.exchange.specs.declared.state.Booked.{Booked}
-use Rattle.exchange.specs.declared.tick.Booking.{Booking}
 use Rattle.exchange.proofs.Executing.{no_booked}
 
 -- ---- numbering

@@ -12,7 +12,7 @@ use Rattle.market.specs.declared.order.Order.{Order}
 use Rattle.market.proofs.Faults.{drawn-append, append-none, none-drawn}
 use Rattle.orders.specs.Orders.{book_width}
 use Rattle.exchange.specs.State.{broken_of, broken_test, broken_fault, log_fault, room_of}
-use Rattle.exchange.specs.Insert.{taken_one, has_room, join_of, insert_tests}
+use Rattle.exchange.specs.Insert.{taken_one, has_room, try_join_of, insert_tests}
 use Rattle.exchange.specs.declared.state.Counts.{Counts}
 use Rattle.exchange.specs.declared.state.UistV1.{UistV1}
 use Rattle.exchange.specs.declared.insert.Joining.{Joining}
@@ -107,6 +107,9 @@ pub record Free (c : Counts) : Type 0 where
   pub place : c.resting + c.waits < book_width
   pub row : c.taken < c.room
 
+pub free-facts : (c : Counts) → has_room c ≡ true → Free c
+free-facts c h = record { place = grind arith; row = grind arith }
+
 pub has_room-free : {c : Counts} → Free c → has_room c ≡ true
 has_room-free {c} f = simp (lt-ltb (c.resting + c.waits) book_width f.place, lt-ltb c.taken c.room f.row)
 
@@ -115,8 +118,8 @@ abbrev pub joining : Counts → Joining
 joining c = record { counts = taken_one c; at = c.resting + c.waits }
 
 -- where there is room, one order more waits
-pub joins : (c : Counts) → Free c → join_of c ≡ Some (joining c)
-unfolding join_of
+pub joins : (c : Counts) → Free c → try_join_of c ≡ Some (joining c)
+unfolding try_join_of
 joins c f = rw (has_room-free f)
 
 module _ (e : UistV1) (o : Order) (n : drawn (insert_tests e.counts o) ≡ None) where
@@ -128,5 +131,5 @@ module _ (e : UistV1) (o : Order) (n : drawn (insert_tests e.counts o) ≡ None)
   join_fits = free.place
 
   -- and the order joins there
-  pub joins_by : join_of e.counts ≡ Some (joining e.counts)
+  pub joins_by : try_join_of e.counts ≡ Some (joining e.counts)
   joins_by = joins e.counts free

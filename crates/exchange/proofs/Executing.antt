@@ -11,9 +11,8 @@ use Rattle.market.specs.declared.order.OrderType.TheVariants.{MarketSell}
 use Rattle.market.specs.declared.quote.Quote.{Quote}
 use Rattle.market.specs.declared.table.Table.{Table}
 use Rattle.market.specs.declared.trade.Trade.{Trade}
-use Rattle.exchange.specs.Tick.{no_trades, trade_at, stays, trades_of, execute_of}
+use Rattle.exchange.specs.Tick.{no_trades, trade_at, stays, trades_of, Executed, execute_of}
 use Rattle.exchange.specs.declared.state.Booked.{Booked}
-use Rattle.exchange.specs.declared.tick.Executed.{Executed}
 
 -- what a read past the end of an array of booked orders gives; no code reads there
 abbrev pub no_booked : Booked

@@ -1,5 +1,5 @@
 -- Deletion: document 01, section 3. Definitions only.
-use Rattle.std.specs.Prelude.{ℕ, ◌+◌, ◌-◌, Bool, take, ◌==◌}
+use Rattle.std.specs.Prelude.{ℕ, ◌+◌, ◌-◌, Bool, List, take, ◌==◌}
 use Rattle.lists.specs.Lists.{over, without, first_from, given}
 use Rattle.market.specs.Faults.{unless_drawn}
 use Rattle.market.specs.declared.fault.After.{After}
@@ -15,11 +15,15 @@ has_number n b = b.id == n
 abbrev pub rests_one_less : Counts → Counts
 rests_one_less c = record { resting = c.resting - 1; waits = c.waits; ids = c.ids; taken = c.taken; logged = c.logged; room = c.room }
 
+-- a book without the order at a place among the first n; the orders behind it keep their order
+abbrev pub moved_of : List Booked → ℕ → ℕ → List Booked
+moved_of book i n = over (without (take n book) i) book
+
 -- the state without the resting order at a place; the orders behind it keep their order
 unfoldable pub removed_of : UistV1 → ℕ → UistV1
 removed_of e i =
     record {
-      book = over (without (take (e.counts.resting + e.counts.waits) e.book) i) e.book;
+      book = moved_of e.book i (e.counts.resting + e.counts.waits);
       counts = rests_one_less e.counts;
     }
 

@@ -23,8 +23,12 @@ abbrev pub has_room : Counts → Bool
 has_room c = nat_lt (c.resting + c.waits) book_width && nat_lt c.taken c.room
 
 -- one order more waits, and its place, where there is room
-unfoldable pub join_of : Counts → Option Joining
-join_of c = cond (has_room c) (Some (record { counts = taken_one c; at = c.resting + c.waits })) None
+unfoldable pub try_join_of : Counts → Option Joining
+try_join_of c = cond (has_room c) (Some (record { counts = taken_one c; at = c.resting + c.waits })) None
+
+-- the same; where there is no room, nothing moves
+unfoldable pub join_of : Counts → Joining
+join_of c = cond (has_room c) (record { counts = taken_one c; at = c.resting + c.waits }) (record { counts = c; at = 0 })
 
 -- an insertion joins the waiting list
 abbrev pub joined : UistV1 → Order → UistV1

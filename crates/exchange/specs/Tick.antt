@@ -16,8 +16,9 @@ use Rattle.exchange.specs.State.{booked_as, broken_fault, log_fault, resting_of,
 use Rattle.exchange.specs.declared.state.Booked.{Booked}
 use Rattle.exchange.specs.declared.state.Counts.{Counts}
 use Rattle.exchange.specs.declared.state.UistV1.{UistV1}
-use Rattle.exchange.specs.declared.tick.Executed.{Executed}
-use Rattle.exchange.specs.declared.tick.Booking.{Booking}
+use Rattle.exchange.specs.declared.tick.Tally.{Tally}
+use Rattle.exchange.specs.declared.tick.Numbered.{Numbered}
+use Rattle.exchange.specs.declared.tick.Traded.{Traded}
 use Rattle.exchange.specs.declared.tick.Ticked.{Ticked}
 use Rattle.exchange.specs.declared.tick.TickAnswer.{TickAnswer}
 
@@ -37,6 +38,16 @@ stays rows b = given (trade_at rows b.order) true (λ x. false)
 -- the trades of booked orders, in book order
 abbrev pub trades_of : (ℕ → Option Quote) → List Booked → List Trade
 trades_of rows l = gather (λ b. holds (trade_at rows b.order)) l
+
+-- the book after it, with the orders that stay, how many these are, the trades of the others, and how many these are
+pub record Executed : Type 0 where
+  pub book : List Booked
+  pub kept : ℕ
+  pub trades : List Trade
+  pub count : ℕ
+
+abbrev pub executed : List Booked → Tally → List Trade → Executed
+executed book n trades = record { book = book; kept = n.kept; trades = trades; count = n.count }
 
 unfoldable pub execute_of : List Booked → ℕ → Table → Executed
 execute_of book resting t =
@@ -70,6 +81,15 @@ number_from n (o ∷ l) = booked_as n o ∷ number_from (next n) l
 abbrev pub counter_after : ℕ → List Order → ℕ
 counter_after n [] = n
 counter_after n (o ∷ l) = counter_after (next n) l
+
+-- a book, how many of its orders rest, and how many numbers were given
+pub record Booking : Type 0 where
+  pub book : List Booked
+  pub at : ℕ
+  pub ids : ℕ
+
+abbrev pub booking : List Booked → Numbered → Booking
+booking book n = record { book = book; at = n.at; ids = n.ids }
 
 -- a book with these orders behind those that rest
 unfoldable pub book_side_of : Booking → List Order → Booking
@@ -116,6 +136,10 @@ tick_done e rows =
       first = e.counts.logged;
       fault = None;
     }
+
+-- a tick in place: the state, and what it tells beside it
+abbrev pub ticked_with : UistV1 → Traded → Ticked
+ticked_with e x = record { exchange = e; trades = x.trades; count = x.count; first = x.first; fault = x.fault }
 
 -- 16, then what the table's rows drew
 abbrev pub tick_fault : UistV1 → Option Fault → Option Fault

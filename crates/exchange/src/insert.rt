@@ -2,7 +2,7 @@
 ghost use Rattle.std.specs.Prelude.{◌≡◌};
 ghost use Rattle.market.specs.Faults.{drawn};
 ghost use Rattle.exchange.specs.State.{room_of};
-ghost use Rattle.exchange.specs.Insert.{insert_tests, has_room, join_of, insert_of};
+ghost use Rattle.exchange.specs.Insert.{insert_tests, has_room, try_join_of, join_of, insert_of};
 
 use crate::state::{Booked, Counts, UistV1};
 use market::fault::{After, Fault};
@@ -48,9 +48,9 @@ impl Counts {
     }
 
     // One order more waits, where there is room for it.
-    #[tactic(auto, unfolding(crate::specs::Insert::join_of))]
-    pub fn join(self) -> Option<Joining>
-        ensures { result ≡ join_of self }
+    #[tactic(auto, unfolding(crate::specs::Insert::try_join_of))]
+    pub fn try_join(self) -> Option<Joining>
+        ensures { result ≡ try_join_of self }
     {
         if !self.has_room() {
             return None;
@@ -65,22 +65,40 @@ impl Counts {
             at: self.resting + self.waits,
         })
     }
+
+    // The same, for a caller who knows that there is room; where there is none, nothing moves.
+    #[tactic(auto, unfolding(crate::specs::Insert::try_join_of, crate::specs::Insert::join_of))]
+    pub fn join(self) -> Joining
+        ensures { result ≡ join_of self }
+    {
+        self.try_join().unwrap_or(Joining {
+            counts: self,
+            at: 0,
+        })
+    }
 }
 
 impl UistV1 {
-    // The state as it was where the order is refused.
+    // An insertion in place: what the order draws. The state is as it was where it is refused.
     #[tactic(auto, using(crate::proofs::Counting::join_fits, crate::proofs::Counting::joins_by), unfolding(crate::specs::Insert::insert_of))]
-    pub fn insert_order(self, order: Order) -> After<UistV1>
-        ensures { result ≡ insert_of self order }
+    pub fn insert_in_place(&mut self, order: Order) -> Option<Fault>
+        ensures { insert_of self.old order ≡ record { state = self.new; fault = result } }
     {
         let fault = self.counts.insert_fault(order);
-        let mut state = self;
         if fault.is_none() {
-            if let Some(join) = self.counts.join() {
-                state.book[join.at] = Booked::waiting(order);
-                state.counts = join.counts;
+            if let Some(join) = self.counts.try_join() {
+                self.book[join.at] = Booked::waiting(order);
+                self.counts = join.counts;
             }
         }
-        After { state, fault }
+        fault
+    }
+
+    // The same, by value.
+    pub fn insert_order(mut self, order: Order) -> After<UistV1>
+        ensures { result ≡ insert_of self order }
+    {
+        let fault = self.insert_in_place(order);
+        After { state: self, fault }
     }
 }

@@ -7,8 +7,8 @@ use market::fault::{Fault, ok_unless};
 
 impl UistV1 {
     // How many trades are in the log.
-    pub fn executed_trade_count(self) -> Result<u64, Fault>
-        ensures { result ≡ trade_count_of self }
+    pub fn executed_trade_count(&self) -> Result<u64, Fault>
+        ensures { result ≡ trade_count_of self.now }
     {
         ok_unless(self.counts.fault(), self.counts.logged)
     }

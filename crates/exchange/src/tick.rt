@@ -1,7 +1,7 @@
 // A tick: the resting orders that meet their rule trade, then the waiting ones are booked.
 ghost use Rattle.std.specs.Prelude.{◌≡◌, ◌+◌, ◌≤◌, length, None, Some};
 ghost use Rattle.market.specs.Faults.{unless_drawn};
-ghost use Rattle.exchange.specs.Tick.{no_trades, execute_of, side_of, book_side_of, book_waiting_of, counts_after, refused_with, tick_of, tick_for_of, answer_of};
+ghost use Rattle.exchange.specs.Tick.{no_trades, executed, execute_of, side_of, booking, book_side_of, book_waiting_of, counts_after, refused_with, ticked_with, tick_of, tick_for_of, answer_of};
 
 use crate::state::{Booked, Counts, UistV1};
 use market::fault::{Fault, unless_drawn};
@@ -29,21 +29,25 @@ pub struct TickAnswer {
     pub fault: Option<Fault>,
 }
 
-// The resting orders that stay, and the trades of the others, each in fixed memory with a count: they
-// become the state's book and the answer's trades, which are `Copy`, as `ArrayVec` is not.
+// What a tick in place tells beside the state, which it changes: as in `Ticked`.
 #[derive(Clone, Copy)]
-struct Executed {
-    book: [Booked; 1024],
+pub struct Traded {
+    pub trades: [Trade; 1024],
+    pub count: usize,
+    pub first: usize,
+    pub fault: Option<Fault>,
+}
+
+// How many resting orders stay, and how many trade.
+#[derive(Clone, Copy)]
+struct Tally {
     kept: usize,
-    trades: [Trade; 1024],
     count: usize,
 }
 
-// A book, how many of its orders rest, and how many numbers were given. The book is fixed memory and
-// becomes the state's, so its count stands beside it.
+// How many orders of a book rest, and how many numbers were given.
 #[derive(Clone, Copy)]
-struct Booking {
-    book: [Booked; 1024],
+struct Numbered {
     at: usize,
     ids: u64,
 }
@@ -56,65 +60,67 @@ fn no_trades() -> [Trade; 1024]
     [t; 1024]
 }
 
-// Trades the resting orders that meet their rule, in book order. What stays moves up in its own
-// array, never past the order that a turn reads, so that the book is copied once: hence the places.
-// That no more rest than the book has places is asked for: counts are plain data, and a tick's test for
-// 16 shows it.
-fn execute_orders(book: &[Booked; 1024], resting: usize, quotes: &Table) -> Executed
-    requires { resting ≤ 1024 }
-    ensures { result ≡ execute_of book.now resting quotes.now }
+// Trades the resting orders that meet their rule, in book order. What stays moves up in the book itself,
+// never past the order that a turn reads: hence the places. That no more rest than the book has places,
+// and that no trades stand there yet, is asked for: counts are plain data, and a tick's test for 16
+// shows it.
+fn execute_orders(
+    book: &mut [Booked; 1024],
+    resting: usize,
+    quotes: &Table,
+    trades: &mut [Trade; 1024],
+) -> Tally
+    requires small { resting ≤ 1024 }
+    requires blank { trades.old ≡ no_trades }
+    ensures { executed book.new result trades.new ≡ execute_of book.old resting quotes.now }
 {
-    let mut stay = *book;
-    let mut trades = no_trades();
     let mut kept: usize = 0;
     let mut count: usize = 0;
     for i in 0..resting {
-        let b = stay[i];
+        let b = book[i];
         match trade::execute(b.order, quotes.row(b.order.symbol)) {
             Some(t) => {
                 trades[count] = t;
                 count += 1;
             }
             None => {
-                stay[kept] = b;
+                book[kept] = b;
                 kept += 1;
             }
         }
     }
-    Executed {
-        book: stay,
-        kept,
-        trades,
-        count,
-    }
+    Tally { kept, count }
 }
 
-impl Booking {
-    // Books the waiting orders of one side behind those that are booked, in order of taking. That they
-    // have places is asked for, as it follows from a tick's test for 16.
-    fn book_side(&mut self, waiting: &[Booked], sells: bool)
-        requires { self.old.at + length (side_of sells waiting.now) ≤ 1024 }
-        ensures { self.new ≡ book_side_of self.old (side_of sells waiting.now) }
-    {
-        for w in waiting {
-            if w.order.is_sell() == sells {
-                self.book[self.at] = Booked::numbered(self.ids, w.order);
-                self.at += 1;
-                self.ids = self.ids.wrapping_add(1);
-            }
+// Books the waiting orders of one side behind those that are booked, in order of taking. That they
+// have places is asked for, as it follows from a tick's test for 16.
+fn book_side(book: &mut [Booked; 1024], from: Numbered, waiting: &[Booked], sells: bool) -> Numbered
+    requires { from.at + length (side_of sells waiting.now) ≤ 1024 }
+    ensures { booking book.new result ≡ book_side_of (booking book.old from) (side_of sells waiting.now) }
+{
+    let mut at = from.at;
+    let mut ids = from.ids;
+    for w in waiting {
+        if w.order.is_sell() == sells {
+            book[at] = Booked::numbered(ids, w.order);
+            at += 1;
+            ids = ids.wrapping_add(1);
         }
     }
+    Numbered { at, ids }
+}
 
-    // Books the waiting orders, which stand in `old` from a place on, behind those that are booked:
-    // sells first, then buys. What is asked follows from a tick's test for 16, too.
-    fn book_waiting(&mut self, old: &[Booked; 1024], from: usize, waits: usize)
-        requires { (from + waits ≤ 1024) × (self.old.at ≤ from) }
-        ensures { self.new ≡ book_waiting_of old.now from waits self.old }
-    {
-        let waiting = &old[from..from + waits];
-        self.book_side(waiting, true);
-        self.book_side(waiting, false);
-    }
+// Books the waiting orders, which stand in the book from a place on, behind those that are booked:
+// sells first, then buys. They are copied out of the book, as the sells among them may go where buys
+// still wait. What is asked follows from a tick's test for 16, too.
+fn book_waiting(book: &mut [Booked; 1024], behind: Numbered, from: usize, waits: usize) -> Numbered
+    requires { (from + waits ≤ 1024) × (behind.at ≤ from) }
+    ensures { booking book.new result ≡ book_waiting_of book.old from waits (booking book.old behind) }
+{
+    let old = *book;
+    let waiting = &old[from..from + waits];
+    let sold = book_side(book, behind, waiting, true);
+    book_side(book, sold, waiting, false)
 }
 
 impl Counts {
@@ -152,37 +158,51 @@ fn refused(e: UistV1, fault: Fault) -> Ticked
 }
 
 impl UistV1 {
-    // One way through, refused or not: a tick that is refused trades and books none. A return
-    // before the work would cost copies of the whole book.
-    pub fn tick(self, quotes: ReadTable) -> Ticked
-        ensures { result ≡ tick_of self quotes.table }
+    // A tick in place, which copies no state. One way through, refused or not: a tick that is refused
+    // trades and books none.
+    pub fn tick_in_place(&mut self, quotes: &ReadTable) -> Traded
+        ensures { ticked_with self.new result ≡ tick_of self.old quotes.now.table }
     {
-        let table = quotes.table();
+        let table = quotes.as_table();
         let counts = self.counts;
         let fault = counts.fault().or(table.fault);
         let resting = unless_drawn(fault, counts.resting, 0);
         let waits = unless_drawn(fault, counts.waits, 0);
-        let Executed {
-            book,
-            kept,
-            trades,
-            count,
-        } = execute_orders(&self.book, resting, &table);
-        let mut booking = Booking {
-            book,
-            at: kept,
+        let mut trades = no_trades();
+        let tally = execute_orders(&mut self.book, resting, table, &mut trades);
+        let behind = Numbered {
+            at: tally.kept,
             ids: counts.ids,
         };
-        booking.book_waiting(&self.book, resting, waits);
-        let Booking { book, at, ids } = booking;
-        Ticked {
-            exchange: UistV1 {
-                book,
-                counts: counts.after(fault, at, ids, count),
-            },
+        let booked = if waits == 0 {
+            behind
+        } else {
+            book_waiting(&mut self.book, behind, resting, waits)
+        };
+        self.counts = counts.after(fault, booked.at, booked.ids, tally.count);
+        Traded {
+            trades,
+            count: tally.count,
+            first: unless_drawn(fault, counts.logged as usize, 0),
+            fault,
+        }
+    }
+
+    // A tick by value.
+    pub fn tick(mut self, quotes: ReadTable) -> Ticked
+        ensures { result ≡ tick_of self quotes.table }
+    {
+        let Traded {
             trades,
             count,
-            first: unless_drawn(fault, counts.logged as usize, 0),
+            first,
+            fault,
+        } = self.tick_in_place(&quotes);
+        Ticked {
+            exchange: self,
+            trades,
+            count,
+            first,
             fault,
         }
     }

@@ -1,11 +1,11 @@
 -- For 0 < x < 2 ^ 52 the whole part is a `u64` that the format holds, and whether it is less than x says whether something was cut. Assumes nothing.
 use Rattle.std.proofs.Common.{◌≡◌, ℕ, zero, suc, ◌+◌, ◌-◌, ◌*◌, ◌/◌, ◌%◌, ◌^◌, ◌<◌, ◌≤◌, min, Bool, true, false, cond, not, T, eqb, ℤ, pos, sym, ap, ◌∙◌, subst, le_trans, le_of_lt, div-lt_iff_lt-mul, lt_of_mul-lt-mul_right, div-add-mod', mul-one, mul_right_comm, le_of_mul-le-mul_right, arith, lit≤, le→leb, ltb→lt, lt→ltb, nltb→le}
 use lib.Dec.{eqb-suc-zero}
-use lib.Ieee.{Float, nan, inf, fin, binary64, up, down, round, lt, to_unsigned, in_float}
+use lib.Ieee.{Float, nan, inf, fin, binary64, up, down, round, lt, of_int, to_unsigned, in_float}
 use lib.Ieee.Fits.{down_pos}
 use lib.Ieee.Exact.{HasValue}
 use lib.Ieee.Back.{round_whole}
-use Rattle.floats.specs.Whole.{over}
+use Rattle.floats.specs.Whole.{over, floor_of, ceil_of}
 use Rattle.floats.proofs.Exact.{over-is}
 
 -- ---- a test's answer as a fact
@@ -71,6 +71,14 @@ pub holds : (n : ℕ) → n ≤ 2 ^ 53 → T (in_float binary64 (pos n))
 unfolding in_float
 holds n h = le→leb n (2 ^ 53) h
 
+pub trunc-floor : (x : Float) → T (lt nought x) → T (lt x bound) → of_int binary64 (pos (to_unsigned 64 x)) ≡ floor_of x
+unfolding of_int floor_of
+trunc-floor nan a b = absurd (unfold lt in a)
+trunc-floor (inf true) a b = absurd (unfold lt in a)
+trunc-floor (inf false) a b = absurd (unfold lt in b)
+trunc-floor (fin true m e) a b = absurd (unfold lt in a)
+trunc-floor (fin false m e) a b = ap (λ (n : ℕ). round binary64 false n 1) (cut-is m e b)
+
 -- ---- whether the whole part n is less than x says whether something was cut
 pub less-val : (t : Float) (n m : ℕ) (e : ℤ) → HasValue t false n 1 → T (lt t (fin false m e)) → n * down e < m * up e
 unfolding lt
@@ -111,3 +119,27 @@ none_over a b h = over-is a b (zero_rest (a / b * b) (a % b) a (div-add-mod' a b
 -- the whole part as a float
 pub part-val : (m : ℕ) (e : ℤ) → T (lt (fin false m e) bound) → HasValue (round binary64 false (m * up e / down e) 1) false (m * up e / down e) 1
 part-val m e b = round_whole binary64 false (m * up e / down e) (le_trans (le_of_lt (cut_small m e b)) (lit≤ tt))
+
+pub trunc-ceil : (x : Float) → T (lt nought x) → T (lt x bound) → lt (of_int binary64 (pos (to_unsigned 64 x))) x ≡ true → of_int binary64 (pos (to_unsigned 64 x + 1)) ≡ ceil_of x
+unfolding of_int ceil_of
+trunc-ceil nan a b h = absurd (unfold lt in a)
+trunc-ceil (inf true) a b h = absurd (unfold lt in a)
+trunc-ceil (inf false) a b h = absurd (unfold lt in b)
+trunc-ceil (fin true m e) a b h = absurd (unfold lt in a)
+trunc-ceil (fin false m e) a b h =
+    let u = cut-is m e b in
+    let n = m * up e / down e in
+    let l : T (lt (round binary64 false n 1) (fin false m e)) = subst (λ (k : ℕ). T (lt (round binary64 false k 1) (fin false m e))) u (yes h) in
+    ap (λ (k : ℕ). round binary64 false (k + 1) 1) u ∙ ap (λ (k : ℕ). round binary64 false k 1) (sym (left_over (m * up e) (down e) (less-val (round binary64 false n 1) n m e (part-val m e b) l)))
+
+pub trunc-ceil-whole : (x : Float) → T (lt nought x) → T (lt x bound) → lt (of_int binary64 (pos (to_unsigned 64 x))) x ≡ false → of_int binary64 (pos (to_unsigned 64 x)) ≡ ceil_of x
+unfolding of_int ceil_of
+trunc-ceil-whole nan a b h = absurd (unfold lt in a)
+trunc-ceil-whole (inf true) a b h = absurd (unfold lt in a)
+trunc-ceil-whole (inf false) a b h = absurd (unfold lt in b)
+trunc-ceil-whole (fin true m e) a b h = absurd (unfold lt in a)
+trunc-ceil-whole (fin false m e) a b h =
+    let u = cut-is m e b in
+    let n = m * up e / down e in
+    let l : T (not (lt (round binary64 false n 1) (fin false m e))) = subst (λ (k : ℕ). T (not (lt (round binary64 false k 1) (fin false m e)))) u (no h) in
+    ap (λ (k : ℕ). round binary64 false k 1) u ∙ ap (λ (k : ℕ). round binary64 false k 1) (sym (none_over (m * up e) (down e) (not-less-val (round binary64 false n 1) n m e (part-val m e b) l)))

@@ -104,7 +104,7 @@ zero-parts true m e a b = let h = nltb→le 0 (m * up e * 1 + 0 * 1 * down e) b 
 pub lot-zero : (L : ℕ) (x : Float) → T (fits binary64 x) → T (not (lt nought x)) → T (not (lt x nought)) → x ≡ lot_of L x
 lot-zero L nan t a b = unfold lot_of in refl
 lot-zero L (inf s) t a b = unfold lot_of in refl
-lot-zero L (fin s m e) t a b = neither (fin s m e) t a b ∙ zero-floor s L m e (zero-parts s m e a b)
+lot-zero L (fin s m e) t a b = (neither (fin s m e) t a b).0 ∙ zero-floor s L m e (zero-parts s m e a b)
 
 -- ---- the tests of `floor_to_lot`
 pub within : (x : Float) → T (lt (neg bound) x) → T (lt x bound) → beyond x ≡ false

@@ -1,11 +1,11 @@
--- What the tests of `floor` tell of x: which values are their own floor, and that the others go by a whole number beside them. Assumes nothing.
+-- What the tests of `floor` tell of x: which values are their own floor and ceiling, and that the others go by a whole number beside them. Assumes nothing.
 use Rattle.std.proofs.Common.{◌≡◌, ℕ, zero, suc, ◌+◌, ◌*◌, ◌%◌, ◌^◌, ◌<◌, ◌≤◌, Bool, true, false, cond, not, T, ltb, ℤ, pos, sym, refl, ap, ◌∙◌, arith, ltb→lt, lt→ltb, nltb→le}
 use native.Mathlib.Nat.{zero-mod}
 use lib.Ieee.{Float, nan, inf, fin, Format, binary64, prec, emax, low, up, down, odd, units, round, neg, lt, fits, of_int}
 use lib.Ieee.Positive.{num, den}
 use lib.Ieee.Fits.{round_is}
 use Rattle.floats.specs.Whole.{under, over, floor_of, ceil_of}
-use Rattle.floats.proofs.Exact.{floor-exact, large}
+use Rattle.floats.proofs.Exact.{floor-exact, ceil-exact, large}
 use Rattle.floats.proofs.Cut.{nought, bound}
 
 -- ---- the sign goes through the rounding
@@ -78,20 +78,24 @@ neg-floor (inf false) = refl
 neg-floor (fin false m e) = ap neg (sym (neg-round binary64 (over (m * up e) (down e)) 1)) ∙ neg-neg (round binary64 false (over (m * up e) (down e)) 1)
 neg-floor (fin true m e) = neg-round binary64 (under (m * up e) (down e)) 1
 
+-- the same of the other one, by `neg-floor` at -x
+pub neg-ceil : (x : Float) → neg (ceil_of (neg x)) ≡ floor_of x
+neg-ceil x = ap neg (sym (neg-floor (neg x))) ∙ neg-neg (floor_of (neg (neg x))) ∙ ap floor_of (neg-neg x)
+
 -- x is 2 ^ 52 at least, -2 ^ 52 at most, or neither above nor below 0: then it is whole, or no number at all
 abbrev Itself : Float → Type 0
-Itself x = x ≡ floor_of x
+Itself x = (x ≡ floor_of x) × (x ≡ ceil_of x)
 
 itself : (s : Bool) (m : ℕ) (e : ℤ) → T (fits binary64 (fin s m e)) → m * up e % down e ≡ 0 → Itself (fin s m e)
-itself s m e t r = sym (floor-exact s m e t r)
+itself s m e t r = (sym (floor-exact s m e t r), sym (ceil-exact s m e t r))
 
 no_number : Itself nan
-unfolding floor_of
-no_number = refl
+unfolding floor_of ceil_of
+no_number = (refl, refl)
 
 infinite : (s : Bool) → Itself (inf s)
-unfolding floor_of
-infinite s = refl
+unfolding floor_of ceil_of
+infinite s = (refl, refl)
 
 pub high-tidy : (n d : ℕ) → 1 * 2 ^ 52 * d ≤ n * 1 → 2 ^ 52 * d ≤ n
 high-tidy n d h = omega arith

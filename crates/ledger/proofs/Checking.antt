@@ -43,15 +43,18 @@ use Rattle.ledger.proofs.Standing.{Stands, cash-same, sends-stand, liquidate-sta
 
 -- ---- the symbols of trades
 
+traded-at : (o : Order) (r : Option Quote) (x : Trade) → trade_on r o ≡ Some x → (x.symbol ≡ o.symbol) × ((q : Quote) × (r ≡ Some q))
+unfolding trade_on
+traded-at o None x e = absurd (none-some x e)
+traded-at o (Some q) x e = (grind arith, (q, refl))
+
 all_append : {A : Type 0} (P : A → Type 0) (l m : List A) → All P l → All P m → All P (l ++ m)
 all_append P [] m a b = b
 all_append P (x ∷ l) m a b = (a.0, all_append P l m a.1 b)
 
 module _ (t : List Quote) (d : drawn (table_tests 0 t) ≡ None) where
   traded-below : (o : Order) (r : Option Quote) (x : Trade) → row_for t o.symbol ≡ r → trade_on r o ≡ Some x → x.symbol < 256
-  unfolding trade_on
-  traded-below o None x f e = absurd (none-some x e)
-  traded-below o (Some q) x f e = grind (arith, row_below 0 t o.symbol q d f)
+  traded-below o r x f e = let s = traded-at o r x e in grind (arith, s.0, row_below 0 t o.symbol s.1.0 d (f ∙ s.1.1))
 
   row-trades : (o : Order) (x : Option Trade) → trade_for t o ≡ x → (b : Bool) → All (λ y. y.symbol < 256) (cond b (holds x) [])
   row-trades o None e true = tt

@@ -1,10 +1,12 @@
 -- Tables that draw nothing: a row's symbol is below 256, fetched rows become latest, and merged tables are read as such. Assumes nothing.
 use Prim.Native.Nat.{ℕ, zero, suc, ◌+◌, ◌<◌}
 use native.Mathlib.Omega.{arith}
+use mathlib.Core.Bool.{cond}
 use mathlib.Core.Path.{◌≡◌, refl, ◌∙◌, fun_ext}
 use mathlib.Core.List.{List, [], ◌∷◌, foldl}
 use Rattle.std.specs.declared.option.Option.{Option}
 use Rattle.std.specs.declared.option.Option.TheVariants.{None, Some}
+use lib.Dec.{ltb}
 use lib.ListN.{length, get_or, get_or-eq_default}
 use Rattle.std.proofs.lemmas.Option.{none-some}
 use Rattle.lists.specs.Lists.{each, given}
@@ -44,9 +46,21 @@ get_or-each f i [] n d e h = grind arith
 get_or-each f i (a ∷ l) zero d e h = grind arith
 get_or-each f i (a ∷ l) (suc n) d e h = grind (arith, get_or-each f (suc i) l n d e)
 
+module _ (l f : Table) (p : length l.rows ≡ 256) where
+  merge-at : (n : ℕ) → n < 256 → row_at (merge_of l f) n ≡ given (row_at f n) (row_at l n) Some
+  unfolding merge_of
+  merge-at n h = grind (arith, get_or-each (λ i q. given (row_at f i) q Some) 0 l.rows n None None)
+
+  merged-row : (n : ℕ) → row_at (merge_of l f) n ≡ cond (ltb n 256) (given (row_at f n) (row_at l n) Some) None
+  unfolding merge_of
+  merged-row n = grind (arith, length-each, get_or-eq_default, merge-at n)
+
+  -- below 256 a fetched row stands, else the latest one; above that there is none, whatever the fetched table is
+  pub merge-rows : row_at (merge_of l f) ≡ (λ n. cond (ltb n 256) (given (row_at f n) (row_at l n) Some) None)
+  merge-rows = fun_ext merged-row
+
 merge-row : (l f : Table) (n : ℕ) → length l.rows ≡ 256 → length f.rows ≡ 256 → row_at (merge_of l f) n ≡ given (row_at f n) (row_at l n) Some
-unfolding merge_of
-merge-row l f n p q = grind (arith, length-each, get_or-eq_default, get_or-each (λ i q. given (row_at f i) q Some) 0 l.rows n None None)
+merge-row l f n p q = grind (arith, get_or-eq_default, merged-row l f p n)
 
 -- a table merged with fetched rows is read as the latest quotes with those rows taken in
 pub merge-fetched : (l : Table) (rows : List Quote) → length l.rows ≡ 256 → drawn (table_tests 0 rows) ≡ None →

@@ -85,7 +85,7 @@ pub fn build(
 // Ticks on the tradable quotes, takes the fetched ones and books the trades, which become the log's
 // newest rows; a shortfall of cash is liquidated.
 pub fn check(
-    broker: UistBroker,
+    mut broker: UistBroker,
     tradable: &[Quote],
     fetched: &[Quote],
     log: &mut [Trade],
@@ -94,10 +94,10 @@ pub fn check(
 {
     let t = ReadTable::of(tradable);
     let f = ReadTable::of(fetched);
-    let checked = broker.check(t, f, log.len());
+    let checked = broker.check_in_place(&t, &f, log.len());
     slices::store(log, checked.first, &checked.trades[..checked.count]);
     CheckAnswer {
-        broker: checked.broker,
+        broker,
         traded: checked.count,
         queued: checked.queued,
         fault: checked.fault,
@@ -120,9 +120,7 @@ pub fn send_orders(
         };
     }
     for (i, order) in orders.iter().enumerate() {
-        let sent = broker.send_order(*order);
-        events[i] = sent.event;
-        broker = sent.broker;
+        events[i] = broker.send_in_place(*order);
     }
     After {
         state: broker,
@@ -132,11 +130,11 @@ pub fn send_orders(
 
 // The walk alone: its orders are written to the lent list.
 pub fn diff_against_target_weights(
-    broker: UistBroker,
+    broker: &UistBroker,
     weights: &[Weight],
     orders: &mut [Order],
 ) -> Result<usize, Fault>
-    ensures { AnswersWalk broker weights.now orders.old result orders.new }
+    ensures { AnswersWalk broker.now weights.now orders.old result orders.new }
 {
     let w = Weights::of(weights);
     let listed = broker.diff_against_target_weights(w, weights.len(), orders.len())?;
@@ -147,7 +145,7 @@ pub fn diff_against_target_weights(
 
 // A check, then the orders that the weights come to; each has its own event, in its place.
 pub fn update(
-    broker: UistBroker,
+    mut broker: UistBroker,
     tradable: &[Quote],
     fetched: &[Quote],
     weights: &[Weight],
@@ -164,11 +162,11 @@ pub fn update(
         events: events.len(),
         weights: weights.len(),
     };
-    let updated = broker.update(t, f, w, lengths);
+    let updated = broker.update_in_place(&t, &f, &w, lengths);
     slices::store(log, updated.first, &updated.trades[..updated.count]);
     slices::store(events, 0, &updated.events[..updated.sent]);
     UpdateAnswer {
-        broker: updated.broker,
+        broker,
         total: updated.total,
         sent: updated.sent,
         fault: updated.fault,

@@ -23,6 +23,13 @@ module _ {A : Type 0} where
       ap (λ (n : ℕ). get_or (over k l) n d) e ∙ get_or-append-add k (drop (length k) l) (i - length k) d ∙ get_or-drop (length k) l (i - length k) d
       ∙ ap (λ (n : ℕ). get_or l n d) (sym e)
 
+  -- so what is dropped past the list is as it was
+  pub drop-over : (k l : List A) (n : ℕ) → length k ≤ n → drop n (over k l) ≡ drop n l
+  drop-over k l n h =
+      let e : n ≡ length k + (n - length k) = omega arith in
+      ap (λ (m : ℕ). drop m (over k l)) e ∙ drop-append-add k (drop (length k) l) (n - length k) ∙ drop-drop (n - length k) (length k) l
+      ∙ ap (λ (m : ℕ). drop m l) (sym e)
+
   -- a store just past the list makes it longer by one
   pub over-more : (k l : List A) (n : ℕ) (x : A) → n ≡ length k → length k < length l → set (over k l) n x ≡ over (k ++ (x ∷ [])) l
   over-more k l n x e h = ap (λ (m : ℕ). set (over k l) m x) e ∙ rw (drop-cons l (length k) x, set-append_seam, length-append, append_assoc, add-one)

@@ -40,6 +40,16 @@ unless-same (Some f) x y z e = refl
 
 -- ---- rows in order
 
+first-by : {A : Type 0} (d : Option Fault) (r : A) (l k : List A) → take (length k) l ≡ k → take (length (unless_drawn d (r ∷ k) [])) (r ∷ l) ≡ unless_drawn d (r ∷ k) []
+first-by None r l k e = ap (λ m. r ∷ m) e
+first-by (Some f) r l k e = refl
+
+-- the good rows are the first ones
+pub good_first : {A : Type 0} (tests : ℕ → A → List Test) (symbol_of : A → ℕ) (least : ℕ) (l : List A) → take (length (good_rows tests symbol_of least l)) l ≡ good_rows tests symbol_of least l
+unfolding good_rows
+good_first tests symbol_of least [] = refl
+good_first tests symbol_of least (r ∷ l) = first-by (drawn (tests least r)) r l (good_rows tests symbol_of (symbol_of r + 1) l) (good_first tests symbol_of (symbol_of r + 1) l)
+
 module _ {A : Type 0} (tests : ℕ → A → List Test) (symbol_of : A → ℕ) (laws : RowLaws tests symbol_of) where
   abbrev drew : ℕ → List A → Option Fault
   drew least l = drawn (rows_tests tests symbol_of least l)

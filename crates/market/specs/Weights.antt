@@ -19,12 +19,11 @@ weight_rows least l = rows_tests weight_tests (λ w. w.symbol) least l
 abbrev pub blank_weight : Weight
 blank_weight = record { symbol = 0; weight = zero64 }
 
--- what is read of rows: the good ones, in the first places of an array of 256, and the number that they draw
+-- what is read of rows: the first 257, in the first places of an array, how many are good, and the number that they draw
 unfoldable pub weights_of : List Weight → Weights
 weights_of l =
-    let good = good_rows weight_tests (λ w. w.symbol) 0 l in
-    record { rows = over good (replicate 256 blank_weight); count = length good; fault = drawn (weight_rows 0 l) }
+    record { rows = over (take 257 l) (replicate 257 blank_weight); count = length (good_rows weight_tests (λ w. w.symbol) 0 l); fault = drawn (weight_rows 0 l) }
 
 -- the rows of weights
 abbrev pub weighed : Weights → List Weight
-weighed w = take w.count w.rows
+weighed w = take w.count (take 256 w.rows)

@@ -1,5 +1,5 @@
 // The refusals of document 01 and 02 by name, and the number of each.
-ghost use Rattle.std.specs.Prelude.{◌≡◌};
+ghost use Rattle.std.specs.Prelude.{◌≡◌, Some, decimal};
 ghost use Rattle.market.specs.Faults.{unless_drawn, ok_unless, number_of};
 
 use std::fmt;
@@ -40,7 +40,10 @@ impl Fault {
     }
 }
 
+// The number is what is written.
 impl fmt::Display for Fault {
+    ghost output = { λ fault. Some (decimal (number_of fault)) };
+
     fn fmt<W: fmt::Write>(&self, f: &mut fmt::Formatter<W>) -> fmt::Result {
         let number = self.number();
         write!(f, "{number}")

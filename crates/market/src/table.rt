@@ -85,6 +85,13 @@ impl ReadTable {
         self.table
     }
 
+    // What was read, lent: a table by value would be copied.
+    pub fn as_table(&self) -> &Table
+        ensures { result.now ≡ self.now.table }
+    {
+        &self.table
+    }
+
     // The number that its rows drew.
     pub fn fault(self) -> Option<Fault>
         ensures { result ≡ self.table.fault }

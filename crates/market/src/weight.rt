@@ -13,13 +13,14 @@ pub struct Weight {
     pub weight: f64,
 }
 
-// Weights by ascending symbol: the first `count` rows, in fixed memory, since nothing is allocated
-// here; a list of `arrayvec` is no `Copy`, and these are copied. `fault` is the number that the first
-// bad row drew, beside the rows before it, which are read as those of a table are. The fields are
-// private, so only reading rows makes one.
+// Weights by ascending symbol: the first `count` of the rows that were given, in fixed memory, since
+// nothing is allocated here; a list of `arrayvec` is no `Copy`, and these are copied. `fault` is the
+// number that the first bad row drew, beside the rows before it, which are read as those of a table are.
+// The rows from the bad one on are kept too, so that a caller can show it; at most 256 rows ascend, so
+// it stands among the first 257. The fields are private, so only reading rows makes one.
 #[derive(Clone, Copy)]
 pub struct Weights {
-    rows: [Weight; 256],
+    rows: [Weight; 257],
     count: usize,
     fault: Option<Fault>,
 }
@@ -48,14 +49,14 @@ impl Weight {
 }
 
 // These rows, in the first places of an array. They are copied one by one: of a copy into a part of a
-// local array no tactic finds what it leaves. That they fit is asked of `Weights::of` alone, whose good
-// rows ascend below 256; a type would have to prove it at the same place.
-fn kept(rows: &[Weight]) -> [Weight; 256]
-    requires { length rows.now ≤ 256 }
-    ensures { result ≡ over rows.now (replicate 256 blank_weight) }
+// local array no tactic finds what it leaves. That they fit is asked of `Weights::of` alone, which cuts
+// them to that many; a type would have to prove it at the same place.
+fn kept(rows: &[Weight]) -> [Weight; 257]
+    requires { length rows.now ≤ 257 }
+    ensures { result ≡ over rows.now (replicate 257 blank_weight) }
 {
     let blank = Weight::blank();
-    let mut kept = [blank; 256];
+    let mut kept = [blank; 257];
     for (i, w) in rows.iter().enumerate() {
         kept[i] = *w;
     }
@@ -69,7 +70,7 @@ impl Weights {
     {
         let read = RowsRead::of(rows);
         Weights {
-            rows: kept(&rows[..read.count]),
+            rows: kept(&rows[..rows.len().min(257)]),
             count: read.count,
             fault: read.fault,
         }
@@ -82,6 +83,20 @@ impl Weights {
     {
         let count = self.count.min(256);
         &self.rows[..count]
+    }
+
+    // How many rows were read.
+    pub fn count(&self) -> usize
+        ensures { result ≡ self.now.count }
+    {
+        self.count
+    }
+
+    // The first 257 rows that were given, and blank ones behind them; those from `count` on do not count.
+    pub fn given(&self) -> &[Weight; 257]
+        ensures { result.now ≡ self.now.rows }
+    {
+        &self.rows
     }
 
     // The number that the rows drew.

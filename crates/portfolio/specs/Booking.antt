@@ -1,9 +1,10 @@
 -- Booking: trades, and fetched rows as the latest quotes. Definitions only.
 use Rattle.std.specs.Prelude.{ℕ, ◌%◌, get_or, set}
-use Rattle.std.specs.Prelude.{None, Some}
+use Rattle.std.specs.Prelude.{List, Option, None, Some}
 use Rattle.std.specs.Float.{nan}
 use Rattle.lists.specs.Lists.{each, given}
 use Rattle.market.specs.Quotes.{row_at}
+use Rattle.market.specs.declared.quote.Quote.{Quote}
 use Rattle.market.specs.declared.table.Table.{Table}
 use Rattle.market.specs.declared.trade.Trade.{Trade}
 use Rattle.rules.specs.Money.{adding, taking, paid, or_zero, unless_zero}
@@ -38,5 +39,8 @@ settle_one f t = put_settled f (t.symbol % 256) (settle_of t (settled_at f (t.sy
 
 -- ---- latest quotes: each fetched row is its symbol's latest, those of other symbols kept
 
+abbrev pub merged_rows : List (Option Quote) → Table → List (Option Quote)
+merged_rows rows f = each (λ i q. given (row_at f i) q Some) 0 rows
+
 unfoldable pub merge_of : Table → Table → Table
-merge_of l f = record { rows = each (λ i q. given (row_at f i) q Some) 0 l.rows; fault = l.fault }
+merge_of l f = record { rows = merged_rows l.rows f; fault = l.fault }

@@ -2,10 +2,11 @@
 // quotes.
 ghost use Rattle.std.specs.Prelude.{◌≡◌};
 ghost use mathlib.Core.List.{foldl};
-ghost use Rattle.portfolio.specs.Booking.{settle_of, settle_one, merge_of};
+ghost use Rattle.portfolio.specs.Booking.{settle_of, settle_one, merged_rows, merge_of};
 
 use crate::state::Funds;
 use crate::value::unless_zero;
+use market::quote::Quote;
 use market::table::Table;
 use market::trade::{Trade, TradeType};
 use std::array;
@@ -45,36 +46,56 @@ fn settle_one(t: Trade, x: Settled) -> Settled
     }
 }
 
-// Books the trades, in order.
+// Books the trades, in order, in the funds themselves.
 #[tactic(auto, unfolding(crate::specs::Booking::settle_one))]
-pub fn settle(funds: Funds, trades: &[Trade]) -> Funds
-    ensures { result ≡ foldl settle_one funds trades.now }
+pub fn settle_in(funds: &mut Funds, trades: &[Trade])
+    ensures { funds.new ≡ foldl settle_one funds.old trades.now }
 {
-    let mut f = funds;
     for t in trades {
         let at = (t.symbol % 256) as usize;
         let x = settle_one(
             *t,
             Settled {
-                cash: f.cash,
-                holding: f.holding[at],
-                pending: f.pending[at],
+                cash: funds.cash,
+                holding: funds.holding[at],
+                pending: funds.pending[at],
             },
         );
-        f.cash = x.cash;
-        f.holding[at] = x.holding;
-        f.pending[at] = x.pending;
+        funds.cash = x.cash;
+        funds.holding[at] = x.holding;
+        funds.pending[at] = x.pending;
     }
-    f
 }
 
-// Each fetched row is its symbol's latest quote.
+// The same, by value.
+pub fn settle(mut funds: Funds, trades: &[Trade]) -> Funds
+    ensures { result ≡ foldl settle_one funds trades.now }
+{
+    settle_in(&mut funds, trades);
+    funds
+}
+
+// The rows where each fetched row is its symbol's latest quote.
 #[tactic(auto, unfolding(crate::specs::Booking::merge_of))]
-pub fn merge(latest: Table, fetched: Table) -> Table
+fn merged(latest: &[Option<Quote>; 256], fetched: &Table) -> [Option<Quote>; 256]
+    ensures { result ≡ merged_rows latest.now fetched.now }
+{
+    array::from_fn(|s| fetched.rows[s].or(latest[s]))
+}
+
+// Each fetched row is its symbol's latest quote, in the table of these.
+#[tactic(auto, unfolding(crate::specs::Booking::merge_of))]
+pub fn merge_in(latest: &mut Table, fetched: &Table)
+    ensures { latest.new ≡ merge_of latest.old fetched.now }
+{
+    let rows = merged(&latest.rows, fetched);
+    latest.rows = rows;
+}
+
+// The same, by value.
+pub fn merge(mut latest: Table, fetched: Table) -> Table
     ensures { result ≡ merge_of latest fetched }
 {
-    Table {
-        rows: array::from_fn(|s| fetched.rows[s].or(latest.rows[s])),
-        fault: latest.fault,
-    }
+    merge_in(&mut latest, &fetched);
+    latest
 }

@@ -2,8 +2,7 @@
 use market::fault::Fault;
 use market::quote::Quote;
 use std::io;
-use vendor::on_arrays::read_on;
-use vendor::quote_lines::write_lines;
+use vendor::on_arrays::{read_on, write_on};
 
 // One form for both: the number, the count that is answered, and what a list holds.
 fn print_line(rt: &impl Print, answer: Result<usize, Fault>, held: usize) -> io::Result<()> {
@@ -22,23 +21,34 @@ fn filled(rows: &[Quote]) -> usize {
 
 // How many bytes from the place `at` on are as they were.
 fn left(out: &[u8], at: usize) -> usize {
-    out.iter().skip(at).filter(|b| **b == b'#').count()
+    let rest = out.get(at..).unwrap_or(b"");
+    rest.iter().filter(|b| **b == b'#').count()
 }
 
-// Writes the rows to a buffer that is full of `#`.
-fn print_written_to(rt: &impl Print, rows: &[Quote], out: &mut [u8]) -> io::Result<()> {
-    let answer = write_lines(rows, out);
+// Writes the first `n` rows to a buffer that is full of `#`.
+fn print_written_to(
+    rt: &impl Print,
+    rows: &[Quote; 257],
+    n: usize,
+    out: &mut [u8],
+) -> io::Result<()> {
+    let answer = write_on(rows, n, out);
     let bytes = answer.unwrap_or(0);
     print_line(rt, answer, left(out, bytes))?;
     // No bytes are written where more are answered than the buffer has.
     rt.write_all(out.get(..bytes).unwrap_or(b""))
 }
 
-// Writes the rows to a buffer of `room` bytes, at most 15,105.
-pub fn print_written(rt: &impl Print, rows: &[Quote], room: usize) -> io::Result<()> {
+// Writes the first `n` rows to a buffer of `room` bytes, at most 15,105.
+pub fn print_written(
+    rt: &impl Print,
+    rows: &[Quote; 257],
+    n: usize,
+    room: usize,
+) -> io::Result<()> {
     let mut out = [b'#'; 15105];
     match out.get_mut(..room) {
-        Some(lent) => print_written_to(rt, rows, lent),
+        Some(lent) => print_written_to(rt, rows, n, lent),
         None => Ok(()),
     }
 }
@@ -49,7 +59,7 @@ pub fn print_read(rt: &impl Print, text: &[u8], rows: usize, bytes: usize) -> io
     let x = read_on(text, rows);
     print_line(rt, x.answer, filled(&x.rows))?;
     match x.answer {
-        Ok(n) => print_written(rt, &x.rows[..n.min(257)], bytes),
+        Ok(n) => print_written(rt, &x.rows, n, bytes),
         Err(_) => Ok(()),
     }
 }

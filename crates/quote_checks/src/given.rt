@@ -19,16 +19,11 @@ fn print_two_rows(rt: &impl Print, symbol: u32, bid: f64) -> io::Result<()> {
         ask: 2.0,
         date: -1,
     };
-    let rows = [
-        first,
-        Quote {
-            symbol,
-            bid,
-            ..first
-        },
-    ];
-    print_written(rt, &rows, 15104)?;
-    print_written(rt, &rows, 15103)
+    let mut rows = [first; 257];
+    rows[1].symbol = symbol;
+    rows[1].bid = bid;
+    print_written(rt, &rows, 2, 15104)?;
+    print_written(rt, &rows, 2, 15103)
 }
 
 // Rows that do not ascend, a symbol of 256, a bid of zero.

@@ -9,8 +9,7 @@ ghost use Rattle.quotes.specs.Printed.{number_line, printed_of};
 use numerals::spelled::decimal_text;
 use std::io;
 use std::io::Read;
-use vendor::on_arrays::read_on;
-use vendor::quote_lines::write_lines;
+use vendor::on_arrays::{read_on, write_on};
 
 // Puts a number on a line at the start of `out`, and answers how many bytes that is. What is written
 // stands in the buffer that is lent, as the rows' text does: this program uses no heap.
@@ -34,7 +33,7 @@ fn printed(input: &[u8], out: &mut [u8]) -> usize
     let x = read_on(input, 256);
     match x.answer {
         // Rows that were read draw nothing where they are written.
-        Ok(n) => write_lines(&x.rows[..n.min(257)], out).unwrap_or(0),
+        Ok(n) => write_on(&x.rows, n, out).unwrap_or(0),
         Err(fault) => put_number(fault.number() as u64, out),
     }
 }

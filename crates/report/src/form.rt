@@ -1,5 +1,5 @@
 // The forms in which a scenario's values are written (docs/SCENARIOS.md).
-ghost use Rattle.std.specs.Prelude.{◌≡◌, Err, IsOkAnd, MatchResult, length, min, take};
+ghost use Rattle.std.specs.Prelude.{◌≡◌, ◌+◌, ◌≤◌, Err, IsOkAnd, MatchResult, length, min, take};
 
 use account::BrokerCashEvent;
 use broker::read::BrokerState;
@@ -38,15 +38,30 @@ impl fmt::Display for Form<u64> {
     }
 }
 
-// A float is the digits of its bits; all NaNs are written alike.
+// The sixteen digits of a float's bits; all NaNs are written alike. They are put together here, since
+// the formatter, which can fill and align them, takes twice as long.
+fn float_digits(x: f64) -> [u8; 16] {
+    if x.is_nan() {
+        return *b"7ff8000000000000";
+    }
+    let digits = b"0123456789abcdef";
+    let mut text = [b'0'; 16];
+    for (i, byte) in x.to_bits().to_be_bytes().iter().enumerate() {
+        text[2 * i] = digits[(*byte / 16) as usize];
+        text[2 * i + 1] = digits[(*byte % 16) as usize];
+    }
+    text
+}
+
+// Digits and colons are text, so nothing is left out.
+fn write_text<W: fmt::Write>(f: &mut fmt::Formatter<W>, text: &[u8]) -> fmt::Result {
+    f.write_str(str::from_utf8(text).unwrap_or(""))
+}
+
+// A float is the digits of its bits.
 impl fmt::Display for Form<f64> {
     fn fmt<W: fmt::Write>(&self, f: &mut fmt::Formatter<W>) -> fmt::Result {
-        let x = self.0;
-        if x.is_nan() {
-            return write!(f, "7ff8000000000000");
-        }
-        let bits = x.to_bits();
-        write!(f, "{bits:016x}")
+        write_text(f, &float_digits(self.0))
     }
 }
 
@@ -101,13 +116,28 @@ impl fmt::Display for Form<OrderEvent> {
     }
 }
 
+// Puts a float's digits at a place.
+fn put_digits(prices: &mut [u8; 35], at: usize, x: f64)
+    requires { at + 16 ≤ 35 }
+{
+    prices[at..at + 16].copy_from_slice(&float_digits(x));
+}
+
+// Bid and ask go out with their colons at once, for the same reason as a float's digits.
 impl fmt::Display for Form<Quote> {
     fn fmt<W: fmt::Write>(&self, f: &mut fmt::Formatter<W>) -> fmt::Result {
-        let quote = self.0;
-        let bid = Form((quote.symbol, quote.bid));
-        let ask = Form(quote.ask);
-        let date = quote.date;
-        write!(f, "{bid}:{ask}:{date}")
+        let Quote {
+            symbol,
+            date,
+            bid,
+            ask,
+        } = self.0;
+        let mut prices = [b':'; 35];
+        put_digits(&mut prices, 1, bid);
+        put_digits(&mut prices, 18, ask);
+        write!(f, "{symbol}")?;
+        write_text(f, &prices)?;
+        write!(f, "{date}")
     }
 }
 

@@ -2,6 +2,7 @@
 // docs/SCENARIOS.md has the form.
 #![tactic(auto)]
 
+mod output;
 pub mod run;
 pub mod show;
 pub mod view;

@@ -1,6 +1,7 @@
 // A scenario's run: line by line a call is made and answered, and what the broker holds is shown.
 ghost use Rattle.std.specs.Prelude.{◌≤◌};
 
+use crate::output::Output;
 use crate::show;
 use crate::view::View;
 use arrays::clock;
@@ -8,18 +9,19 @@ use broker::state::UistBroker;
 use calls::call::Call;
 use calls::verb::Verb;
 use costs::TradeCosts;
-use dispatch::{Job, list_calls, log_calls, plain_calls};
+use dispatch::line_lists::Job;
+use dispatch::{Caller, list_calls, log_calls, plain_calls};
 use market::order::Order;
 use market::table::ReadTable;
 use market::trade::Trade;
 use report::answer::Reply;
 use report::form::Form;
 use std::io;
-use std::io::{BufWriter, Read, Write};
+use std::io::{Read, Write};
 use std::time::CpuClock;
 use text::failed;
 use text::failed::Failed;
-use text::input::{Input, Line};
+use text::input::{Line, Lines};
 
 // A run beside its input, its broker and its log: what tells the time, where the answers go, and what
 // is kept.
@@ -35,13 +37,11 @@ impl<R: CpuClock, W: Write> Session<'_, R, W> {
     // the line's call began.
     fn begin(&mut self, line: Line<'_>, c: &Call) -> io::Result<Option<u64>> {
         let number = line.number;
-        match c.verb {
-            Verb::Blank => return Ok(None),
-            Verb::Malformed => write!(self.out, "{number} malformed")?,
-            _ => {
-                write!(self.out, "{number} ")?;
-                self.out.write_all(line.first_word())?;
-            }
+        if matches!(c.verb, Verb::Malformed) {
+            write!(self.out, "{number} malformed")?;
+        } else {
+            write!(self.out, "{number} ")?;
+            self.out.write_all(line.first_word())?;
         }
         Ok(clock::now(self.rt))
     }
@@ -62,55 +62,53 @@ impl<R: CpuClock, W: Write> Session<'_, R, W> {
         Ok(())
     }
 
-    // An insertion, in a frame of its own for the same reason.
+    // An insertion, out of the frame of the run's loop.
     #[inline(never)]
     fn insert(&mut self, from: Option<u64>, b: &mut UistBroker, order: Order) -> io::Result<()> {
-        let x = b.insert_order(order);
-        self.reply(from, Reply::Event(x.event))?;
-        *b = x.broker;
-        Ok(())
+        let event = b.insert_in_place(order);
+        self.reply(from, Reply::Event(event))
     }
 
-    // A deletion. It is answered first, so that its time is without the copy of what it leaves.
+    // A deletion, as an insertion.
+    #[inline(never)]
     fn delete(&mut self, from: Option<u64>, b: &mut UistBroker, order_id: u64) -> io::Result<()> {
-        let x = b.delete_order(order_id);
-        self.reply(from, Reply::Deleted(x.fault))?;
-        *b = x.state;
-        Ok(())
+        let fault = b.delete_in_place(order_id);
+        self.reply(from, Reply::Deleted(fault))
     }
 
-    // The call of a line, answered where the run answers.
-    fn job<'a>(&'a mut self, line: &'a [u8], call: &'a Call) -> Job<'a, R, W> {
-        Job {
+    // What makes a line's call and answers it where the run answers.
+    fn caller(&mut self) -> Caller<'_, R, W> {
+        Caller {
             rt: self.rt,
             out: &mut self.out,
-            line,
-            call,
         }
     }
 
     // A line whose call the log is lent to.
-    fn log_call(
-        &mut self,
-        b: &mut UistBroker,
-        line: &[u8],
-        c: &Call,
-        log: &mut [Trade],
-    ) -> io::Result<()> {
-        if matches!(c.verb, Verb::New) {
-            self.view.renew(c.log as usize);
+    fn log_call(&mut self, job: Job<'_>, b: &mut UistBroker, log: &mut [Trade]) -> io::Result<()> {
+        if matches!(job.call.verb, Verb::New) {
+            self.view.renew(job.call.log as usize);
         }
         let rows = self.view.rows.min(log.len());
-        let micros = self.job(line, c).on_log(b, &mut log[..rows])?;
+        let micros = self.caller().on_log(job, b, &mut log[..rows])?;
         self.view.count(micros);
         Ok(())
     }
 
     // A line whose call is answered by a list, and needs no log.
-    fn list_call(&mut self, b: &mut UistBroker, line: &[u8], c: &Call) -> io::Result<()> {
-        let micros = self.job(line, c).on_lists(b)?;
+    fn list_call(&mut self, job: Job<'_>, b: &mut UistBroker) -> io::Result<()> {
+        let micros = self.caller().on_lists(job, b)?;
         self.view.count(micros);
         Ok(())
+    }
+
+    // A call that changes nothing and is answered by no list, or a line that makes no call.
+    #[inline(never)]
+    fn ask(&mut self, from: Option<u64>, b: &UistBroker, c: &Call) -> io::Result<()> {
+        match plain_calls::ask(b, c) {
+            Some(reply) => self.reply(from, reply),
+            None => self.view.set(&mut self.out, c),
+        }
     }
 
     // A line that is no deposit, withdrawal or order.
@@ -123,6 +121,10 @@ impl<R: CpuClock, W: Write> Session<'_, R, W> {
         c: &Call,
         log: &mut [Trade],
     ) -> io::Result<()> {
+        let job = Job {
+            line: line.bytes(),
+            call: c,
+        };
         match c.verb {
             Verb::Malformed => {
                 let reason = Form(line.reason(log.len()));
@@ -131,12 +133,9 @@ impl<R: CpuClock, W: Write> Session<'_, R, W> {
             Verb::Liquidate => self.liquidate(from, b, c.amount),
             Verb::Insert => self.insert(from, b, c.order),
             Verb::Delete => self.delete(from, b, c.whole),
-            _ if log_calls::needs_log(c) => self.log_call(b, line.bytes(), c, log),
-            _ if list_calls::is_listed(c) => self.list_call(b, line.bytes(), c),
-            _ => match plain_calls::ask(b, c) {
-                Some(reply) => self.reply(from, reply),
-                None => self.view.set(&mut self.out, c),
-            },
+            _ if log_calls::needs_log(c) => self.log_call(job, b, log),
+            _ if list_calls::is_listed(c) => self.list_call(job, b),
+            _ => self.ask(from, b, c),
         }
     }
 
@@ -152,7 +151,7 @@ impl<R: CpuClock, W: Write> Session<'_, R, W> {
     // The next line: what was answered is written before it is waited for.
     fn next_line<'i>(
         &mut self,
-        input: &'i mut Input<impl Read + Drop>,
+        input: &'i mut Lines<'_, impl Read + Drop>,
     ) -> Result<Option<Line<'i>>, Failed> {
         if input.waits() {
             self.out.flush()?;
@@ -164,7 +163,7 @@ impl<R: CpuClock, W: Write> Session<'_, R, W> {
     // once: behind another function it would be copied, which takes longer than the call.
     fn run_lines(
         &mut self,
-        input: &mut Input<impl Read + Drop>,
+        input: &mut Lines<'_, impl Read + Drop>,
         log: &mut [Trade],
     ) -> Result<(), Failed> {
         let mut b = first_broker();
@@ -173,10 +172,12 @@ impl<R: CpuClock, W: Write> Session<'_, R, W> {
             let Some(line) = self.next_line(input)? else {
                 break;
             };
+            if line.is_blank() {
+                continue;
+            }
             let c = line.call(log.len());
             let from = self.begin(line, &c)?;
             match c.verb {
-                Verb::Blank => continue,
                 Verb::Deposit => {
                     let x = b.deposit_cash(c.amount);
                     b = x.broker;
@@ -188,9 +189,8 @@ impl<R: CpuClock, W: Write> Session<'_, R, W> {
                     self.reply(from, Reply::Cash(x.event))?;
                 }
                 Verb::Send => {
-                    let x = b.send_order(c.order);
-                    b = x.broker;
-                    self.reply(from, Reply::Event(x.event))?;
+                    let event = b.send_in_place(c.order);
+                    self.reply(from, Reply::Event(event))?;
                 }
                 _ => self.answer(from, &mut b, line, &c, log)?,
             }
@@ -206,35 +206,41 @@ fn first_broker() -> UistBroker {
     built.unwrap_or(UistBroker::none())
 }
 
-// Runs the scenario on standard input, with a log of so many rows. They stand on the stack, so they are
-// no part of the frame of `main`, which asks for the stack's limit first.
+// Tells what kept the run from its end. Where an answer could not be written before more input is waited
+// for, the input is read once more all the same, and what fails there is told too.
+fn tell_end(rt: &impl Eprint, input: &mut Lines<'_, impl Read + Drop>, ended: Result<(), Failed>) {
+    let reads_on = matches!(ended, Err(Failed::Output(_)));
+    failed::tell(rt, ended);
+    if reads_on {
+        failed::tell(rt, input.read_on().map_err(Failed::Input));
+    }
+}
+
+// Runs the scenario on standard input, with a log of so many rows. They and the buffers stand on the
+// stack, so they are no part of the frame of `main`, which asks for the stack's limit first.
 #[inline(never)]
-fn run<const ROWS: usize>(
-    rt: &(impl AllocGlobal + io::Input + Print + CpuClock),
-) -> Result<(), Failed>
+fn run<const ROWS: usize>(rt: &(impl io::Input + Print + Eprint + CpuClock))
     requires { ROWS ≤ 1048576 }
 {
     let mut log = [Trade::blank(); ROWS];
-    let mut input = Input::new(rt.alloc(), rt.reader()).map_err(Failed::Input)?;
+    let mut read = [0; 65536];
+    let mut written = [0; 65536];
+    let mut input = Lines::new(rt.reader(), &mut read);
     let mut session = Session {
         rt,
-        out: BufWriter::with_capacity(rt.alloc(), 65536, io::writer(rt))?,
+        out: Output::new(rt, &mut written),
         view: View::new(),
     };
-    let result = session.run_lines(&mut input, &mut log);
-    if result.is_err() {
-        // What could not be written is not tried again.
-        let _ = session.out.into_parts();
-    }
-    result
+    let ended = session.run_lines(&mut input, &mut log);
+    tell_end(rt, &mut input, ended);
 }
 
 // A run whose log has at most 65,536 rows.
-pub fn with_small_log(rt: &(impl AllocGlobal + io::Input + Print + Eprint + CpuClock)) {
-    failed::tell(rt, run::<65536>(rt));
+pub fn with_small_log(rt: &(impl io::Input + Print + Eprint + CpuClock)) {
+    run::<65536>(rt);
 }
 
 // A run whose log has at most 1,048,576 rows.
-pub fn with_large_log(rt: &(impl AllocGlobal + io::Input + Print + Eprint + CpuClock)) {
-    failed::tell(rt, run::<1048576>(rt));
+pub fn with_large_log(rt: &(impl io::Input + Print + Eprint + CpuClock)) {
+    run::<1048576>(rt);
 }

@@ -2,7 +2,7 @@
 -- is stated of lent tables and buffers, and of arrays whose first rows are lent. Assumes nothing.
 use Prim.Native.Nat.{ℕ, min, ◌≤◌}
 use native.Mathlib.Omega.{arith}
-use mathlib.Core.Path.{◌≡◌, refl, sym, ◌∙◌, ap, ap₂}
+use mathlib.Core.Path.{◌≡◌, refl, sym, ◌∙◌, ap, ap₂, subst}
 use mathlib.Core.List.{List, [], ◌++◌, append_assoc}
 use lib.ListN.{length, take, drop, replicate, take-append-drop}
 use lib.Seq.{length-take-le, drop-append-le}
@@ -104,6 +104,10 @@ write_answers table t out after z is-t w =
       answer = w.answer ∙ ap₂ (λ (d : Option Fault) (k : List ℕ). ok_unless d (length k)) fault text;
       buffer-is = w.buffer ∙ ap (λ (k : List ℕ). over k out) text;
     }
+
+-- the first rows of an array, of which the first n or all count
+pub write_on_answers : (rows : List Quote) (n k : ℕ) (out after : List ℕ) (z : Result ℕ Fault) → k ≡ min n 257 → AnswersWrite (take k rows) out z after → AnswersWrite (take (min n 257) rows) out z after
+write_on_answers rows n k out after z is done = subst (λ (i : ℕ). AnswersWrite (take i rows) out z after) is done
 
 -- ---- rows that were stored in the first n places of a list stand in the whole list
 

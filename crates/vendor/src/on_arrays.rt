@@ -1,8 +1,8 @@
 // Quote lines for a caller whose table is an array: its first rows are lent.
-ghost use Rattle.std.specs.Prelude.{◌≡◌};
-ghost use Rattle.vendor.specs.Answers.{read_on};
+ghost use Rattle.std.specs.Prelude.{◌≡◌, min, take};
+ghost use Rattle.vendor.specs.Answers.{read_on, AnswersWrite};
 
-use crate::quote_lines::read_lines;
+use crate::quote_lines::{read_lines, write_lines};
 use market::fault::Fault;
 use market::quote::Quote;
 
@@ -22,4 +22,11 @@ pub fn read_on(input: &[u8], room: usize) -> TableRead
     let mut rows = [blank; 257];
     let answer = read_lines(input, &mut rows[..n]);
     TableRead { answer, rows }
+}
+
+// Writes the text of the array's first `n` rows, of all where `n` is more.
+pub fn write_on(rows: &[Quote; 257], n: usize, out: &mut [u8]) -> Result<usize, Fault>
+    ensures { AnswersWrite (take (min n 257) rows.now) out.old result out.new }
+{
+    write_lines(&rows[..n.min(257)], out)
 }

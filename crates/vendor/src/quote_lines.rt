@@ -13,8 +13,11 @@ use market::table::ReadTable;
 pub fn read_lines(input: &[u8], table: &mut [Quote]) -> Result<usize, Fault>
     ensures { AnswersRead input.now table.old result table.new }
 {
-    let x = read(input, table.len())?;
-    Ok(store_rows(&x, table))
+    // No `?`, which would copy the rows twice.
+    match read(input, table.len()) {
+        Ok(x) => Ok(store_rows(&x, table)),
+        Err(fault) => Err(fault),
+    }
 }
 
 // Writes the text of a table to the buffer's first bytes.

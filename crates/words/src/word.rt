@@ -1,6 +1,6 @@
 // Words of a line, and the parts of a word that colons separate.
 ghost use Rattle.std.specs.Prelude.{◌≡◌, [], length, get_or, drop};
-ghost use Rattle.words.specs.Words.{split, words_of, is_byte, place, word_at, part_of, same_bytes};
+ghost use Rattle.words.specs.Words.{split, words_of, is_byte, place, word_at, part_of, Holds, same_bytes};
 
 // A word or a part: the bytes from `from` to before `to`.
 #[derive(Clone, Copy)]
@@ -53,6 +53,22 @@ pub fn part(w: &[u8], k: usize) -> &[u8]
     ensures { result.now ≡ part_of w.now k }
 {
     w.split(|b| *b == b':').nth(k).unwrap_or(&[])
+}
+
+// Where that part stands; it is empty, at the word's end, where there are fewer colons.
+pub fn part_at(w: &[u8], k: usize) -> Word
+    ensures { Holds w.now result (part_of w.now k) }
+{
+    let mut from = 0;
+    let mut to = next(w, from, b':', true);
+    for _i in 0..k {
+        if to == w.len() {
+            return Word { from: to, to };
+        }
+        from = to + 1;
+        to = next(w, from, b':', true);
+    }
+    Word { from, to }
 }
 
 // Are the bytes those of `name`? A `==` with the clause that the readers of names are proved by.

@@ -19,7 +19,7 @@ returns-then-x-2 c = floor-above c.args.x c.whole_under.result (yes c.if-x.true)
 
 pub returns-then-x : goal.returns-then-x
 unfolding of_bits
-returns-then-x c = at_least c.args.x (yes c.well_formed.0.1) (yes c.if-x.true) (no c.if-x-2.false)
+returns-then-x c = (at_least c.args.x (yes c.well_formed.0.1) (yes c.if-x.true) (no c.if-x-2.false)).0
 
 pub whole_over-requires : goal.whole_over-requires
 unfolding of_bits neg
@@ -34,8 +34,8 @@ returns-then-x-4 c = floor-below c.args.x c.whole_over.result (yes c.if-x-3.true
 
 pub returns-then-x-3 : goal.returns-then-x-3
 unfolding of_bits neg
-returns-then-x-3 c = at_most c.args.x (yes c.well_formed.0.1) (yes c.if-x-3.true) (no c.if-x-4.false)
+returns-then-x-3 c = (at_most c.args.x (yes c.well_formed.0.1) (yes c.if-x-3.true) (no c.if-x-4.false)).0
 
 pub returns : goal.returns
 unfolding of_bits
-returns c = neither c.args.x (yes c.well_formed.0.1) (no c.if-x.false) (no c.if-x-3.false)
+returns c = (neither c.args.x (yes c.well_formed.0.1) (no c.if-x.false) (no c.if-x-3.false)).0

@@ -1,14 +1,10 @@
 -- the text of the rows, or the number that is drawn
-use mathlib.Core.Path.{subst}
-use Rattle.std.proofs.Common.{take}
-use Rattle.vendor.specs.Answers.{AnswersWrite}
 use Rattle.quotes.proofs.Printing.{rows-printed, number-printed}
 use Rattle.quotes.proofs.printed.Goals as goal
 
 pub returns-in-Ok-clause-out_after : goal.returns-in-Ok-clause-out_after
 returns-in-Ok-clause-out_after c =
-    let written = subst (λ i. AnswersWrite (take i c.read_on-x.result.rows) c.args.out.now c.write_lines.result c.write_lines.new.out) c.min.ensures c.write_lines.ensures in
-    (rows-printed c.args.input.now c.read_on-x.result c.args.out.now _ c.read_on-x.ensures c.in-Ok.n _ _ c.requires c.in-Ok.is written c.unwrap_or.ensures).1
+    (rows-printed c.args.input.now c.read_on-x.result c.args.out.now _ c.read_on-x.ensures c.in-Ok.n _ _ c.requires c.in-Ok.is c.write_on.ensures c.unwrap_or.ensures).1
 
 pub returns-in-Err-clause-out_after : goal.returns-in-Err-clause-out_after
 returns-in-Err-clause-out_after c =

@@ -12,8 +12,8 @@ use Rattle.exchange.proofs.tick.execute_orders.Goals.{in-Some, in-None}
 pub loop-i-preserved : goal.loop-i-preserved
 loop-i-preserved c = let read = unmoved _ _ _ _ _ _ _ _ c.loop-i.invariant in
     let on = ap (λ (b : Booked). trade_at (row_at c.args.quotes.now) b.order) (sym read)
-    ∙ ap (λ r. trade_on r (get_or c.loop-i.stay c.loop-i.i no_booked).order) (sym c.row.ensures) ∙ sym c.execute.ensures in
-    elim c.match-execute.branch [ in-Some w ↦ trades-one _ _ _ _ _ _ _ _ c.loop-i.invariant c.loop-i-test.true _ _ _ _ _ (on ∙ w.in-Some.is) w.stay-is w.trades-is w.kept-is w.count-is | in-None w ↦ keeps-one _ _ _ _ _ _ _ _ c.loop-i.invariant c.loop-i-test.true _ _ _ _ (on ∙ w.in-None.is) (w.stay-is ∙ ap (set c.loop-i.stay c.loop-i.kept) read) w.trades-is w.kept-is w.count-is ]
+    ∙ ap (λ r. trade_on r (get_or c.loop-i.book c.loop-i.i no_booked).order) (sym c.row.ensures) ∙ sym c.execute.ensures in
+    elim c.match-execute.branch [ in-Some w ↦ trades-one _ _ _ _ _ _ _ _ c.loop-i.invariant c.loop-i-test.true _ _ _ _ _ (on ∙ w.in-Some.is) w.book-is w.trades-is w.kept-is w.count-is | in-None w ↦ keeps-one _ _ _ _ _ _ _ _ c.loop-i.invariant c.loop-i-test.true _ _ _ _ (on ∙ w.in-None.is) (w.book-is ∙ ap (set c.loop-i.book c.loop-i.kept) read) w.trades-is w.kept-is w.count-is ]
 
 pub returns : goal.returns
 returns c = executed _ _ _ _ _ _ _ _ c.loop-i.invariant c.loop-i-test.false

@@ -5,4 +5,4 @@ use Rattle.exchange.proofs.Executing.{Inv}
 use Rattle.exchange.proofs.tick.execute_orders.Given as goal
 
 abbrev pub invariant-loop-i : goal.invariant-loop-i
-invariant-loop-i l = Inv (row_at l.quotes) l.resting l.initial.stay l.stay l.trades l.kept l.count l.i
+invariant-loop-i l = Inv (row_at l.quotes) l.resting l.initial.book l.book l.trades l.kept l.count l.i

@@ -12,6 +12,6 @@ use Rattle.market.proofs.weight.kept.Goals as goal
 
 pub loop-i-preserved : goal.loop-i-preserved
 loop-i-preserved c =
-    let room : length c.args.rows.now ≤ length (replicate 256 blank_weight) = omega (arith, c.requires, length-replicate 256 blank_weight) in
+    let room : length c.args.rows.now ≤ length (replicate 257 blank_weight) = omega (arith, c.requires, length-replicate 257 blank_weight) in
     ap (λ (k : List Weight). set k c.loop-i.i (get_or c.args.rows.now c.loop-i.i no_weight)) c.loop-i.invariant
-    ∙ over-next c.args.rows.now (replicate 256 blank_weight) c.loop-i.i _ no_weight c.loop-i-test.true room refl
+    ∙ over-next c.args.rows.now (replicate 257 blank_weight) c.loop-i.i _ no_weight c.loop-i-test.true room refl

@@ -6,4 +6,4 @@ use Rattle.market.specs.Weights.{blank_weight}
 use Rattle.market.proofs.weight.kept.Given as goal
 
 abbrev pub invariant-loop-i : goal.invariant-loop-i
-invariant-loop-i l = l.kept ≡ over (take l.i l.rows) (replicate 256 blank_weight)
+invariant-loop-i l = l.kept ≡ over (take l.i l.rows) (replicate 257 blank_weight)

@@ -1,5 +1,6 @@
 -- `get_quotes`: the rows of the table are those of the symbols.
-use Rattle.std.proofs.Common.{rules, length, ◌≡◌}
+use Rattle.std.proofs.Common.{ap, ◌∙◌}
+use Rattle.lists.specs.Lists.{gather, holds}
 use Rattle.reads.specs.Rows.{quote_rows}
 use Rattle.reads.proofs.BySymbol.{latest-rows, same_rows}
 use Rattle.reads.proofs.uist.get_quotes.Goals as goal
@@ -7,5 +8,4 @@ use Rattle.reads.proofs.uist.get_quotes.Goals as goal
 pub returns : goal.returns
 unfolding quote_rows
 returns c =
-    let long : length c.args.broker.portfolio.latest.rows ≡ 256 = search rules in
-    same_rows (latest-rows c.args.broker.portfolio.latest long) c.answer.ensures
+    same_rows (ap (gather holds) c.whole.ensures.same ∙ latest-rows c.args.broker.now.portfolio.latest c.whole.ensures.long) c.answer.ensures
