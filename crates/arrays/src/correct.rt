@@ -20,5 +20,7 @@ pub fn correct_on(
     ensures { result ≡ correct_on rows.now n room }
 {
     let given = &rows[..n.min(1100)];
-    lend(no_quotes(), room, |table| correct_quotes(given, table))
+    let mut list = no_quotes();
+    let answer = lend(&mut list, room, |table| correct_quotes(given, table));
+    Lent { answer, list }
 }

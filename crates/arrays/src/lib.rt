@@ -2,7 +2,8 @@
 // each lends the first rows of its arrays.
 #![tactic(auto)]
 
-ghost use Rattle.std.specs.Prelude.{◌≡◌};
+ghost use Rattle.std.specs.Prelude.{◌≡◌, IsSome};
+ghost use Rattle.market.specs.Faults.{ok_unless};
 ghost use Rattle.std.specs.Fn.{FnOnceReturnsAtMut};
 ghost use Rattle.broker.specs.Lent.{build_for};
 ghost use Rattle.lent.specs.Answers.{AnswersCheck, AnswersSend, AnswersWalk, AnswersUpdate};
@@ -78,21 +79,14 @@ pub fn no_orders() -> [Order; 1024]
     [Order::blank(); 1024]
 }
 
-// Lends the first `room` places of an array to a call: its answer, with the array. The array comes made:
-// of one that is made here of a blank entry, of any type, no proof was found that the places past the
-// lent ones stay. Where a call makes the blank entry, a function makes the array, for no proof of the
-// callers was found without it.
-fn lend<T: Copy, A, F: FnOnce(&mut [T]) -> A>(
-    mut list: [T; 1024],
-    room: usize,
-    call: F,
-) -> Lent<A, [T; 1024]>
+// Lends the first `room` places of an array to a call, and answers what it answers. Where a call makes
+// the blank entry, a function makes the array, for no proof of the callers was found without it.
+fn lend<T: Copy, A, F: FnOnce(&mut [T]) -> A>(list: &mut [T; 1024], room: usize, call: F) -> A
     requires { F.IsAlwaysCallable call }
-    ensures lent { FnOnceReturnsAtMut F.FnOnce call (lent_of room list) result.answer (lent_of room result.list) }
-    ensures past { past_lent room result.list ≡ past_lent room list }
+    ensures lent { FnOnceReturnsAtMut F.FnOnce call (lent_of room list.old) result (lent_of room list.new) }
+    ensures past { past_lent room list.new ≡ past_lent room list.old }
 {
-    let answer = call(&mut list[..room.min(1024)]);
-    Lent { answer, list }
+    call(&mut list[..room.min(1024)])
 }
 
 // A fresh broker for the lent log.
@@ -100,6 +94,20 @@ pub fn build_on(costs: TradeCosts, lot: u32, x: &Lists, log: &[Trade]) -> Result
     ensures { result ≡ build_for costs lot (tradable_in x.now) log.now }
 {
     uist::build(costs, lot, &x.tradable[..x.first.min(512)], log)
+}
+
+// The same in the place of another broker, which stays where this is refused.
+pub fn build_in_place_on(
+    b: &mut UistBroker,
+    costs: TradeCosts,
+    lot: u32,
+    x: &Lists,
+    log: &[Trade],
+) -> Option<Fault>
+    ensures built { build_for costs lot (tradable_in x.now) log.now ≡ ok_unless result b.new }
+    ensures kept { IsSome result → b.new ≡ b.old }
+{
+    uist::build_in_place(b, costs, lot, &x.tradable[..x.first.min(512)], log)
 }
 
 // A check; its time is left free.
@@ -124,11 +132,11 @@ pub fn send_on(b: UistBroker, x: &Orders) -> Lent<After<UistBroker>, [OrderEvent
     ensures { AnswersSend b (orders_in x.now) (lent_of x.now.room blank_events) result.answer (lent_of x.now.room result.list) × (past_lent x.now.room result.list ≡ past_lent x.now.room blank_events) }
 {
     let orders = &x.list[..x.count.min(1024)];
-    lend(
-        no_events(),
-        x.room,
-        |events| uist::send_orders(b, orders, events),
-    )
+    let mut list = no_events();
+    let answer = lend(&mut list, x.room, |events| {
+        uist::send_orders(b, orders, events)
+    });
+    Lent { answer, list }
 }
 
 // The walk alone; past the entries lent the array of orders stays blank.
@@ -136,9 +144,11 @@ pub fn walk_on(b: &UistBroker, x: &Lists) -> Lent<Result<usize, Fault>, [Order; 
     ensures { AnswersWalk b.now (weights_in x.now) (lent_of x.now.room blank_orders) result.answer (lent_of x.now.room result.list) × (past_lent x.now.room result.list ≡ past_lent x.now.room blank_orders) }
 {
     let weights = &x.weights[..x.third.min(512)];
-    lend(no_orders(), x.room, |orders| {
+    let mut list = no_orders();
+    let answer = lend(&mut list, x.room, |orders| {
         uist::diff_against_target_weights(b, weights, orders)
-    })
+    });
+    Lent { answer, list }
 }
 
 // An update; its time is left free, and past the entries lent the array of events stays blank. It

@@ -30,40 +30,42 @@ pub(crate) fn no_quotes() -> [Quote; 1024]
 pub fn positions_on(b: &UistBroker, room: usize) -> Lent<Result<usize, Fault>, [u32; 1024]>
     ensures { ReadOn b.now (position_rows (money_of b.now.portfolio)) room blank_positions result.answer result.list }
 {
-    lend([0; 1024], room, |list| uist::get_positions(b, list))
+    let mut list = [0; 1024];
+    let answer = lend(&mut list, room, |rows| uist::get_positions(b, rows));
+    Lent { answer, list }
 }
 
 #[tactic(auto, unfolding(crate::specs::Reads::blank_holdings))]
 pub fn holdings_on(b: &UistBroker, room: usize) -> Lent<Result<usize, Fault>, [Holding; 1024]>
     ensures { ReadOn b.now (holding_rows (money_of b.now.portfolio)) room blank_holdings result.answer result.list }
 {
-    lend([NO_HOLDING; 1024], room, |list| uist::get_holdings(b, list))
+    let mut list = [NO_HOLDING; 1024];
+    let answer = lend(&mut list, room, |rows| uist::get_holdings(b, rows));
+    Lent { answer, list }
 }
 
 #[tactic(auto, unfolding(crate::specs::Reads::blank_holdings))]
 pub fn pending_on(b: &UistBroker, room: usize) -> Lent<Result<usize, Fault>, [Holding; 1024]>
     ensures { ReadOn b.now (pending_rows (money_of b.now.portfolio)) room blank_holdings result.answer result.list }
 {
-    lend(
-        [NO_HOLDING; 1024],
-        room,
-        |list| uist::get_pending_orders(b, list),
-    )
+    let mut list = [NO_HOLDING; 1024];
+    let answer = lend(&mut list, room, |rows| uist::get_pending_orders(b, rows));
+    Lent { answer, list }
 }
 
 pub fn quotes_on(b: &UistBroker, room: usize) -> Lent<Result<usize, Fault>, [Quote; 1024]>
     ensures { ReadOn b.now (quote_rows (money_of b.now.portfolio)) room blank_quotes result.answer result.list }
 {
-    lend(no_quotes(), room, |list| uist::get_quotes(b, list))
+    let mut list = no_quotes();
+    let answer = lend(&mut list, room, |rows| uist::get_quotes(b, rows));
+    Lent { answer, list }
 }
 
 #[tactic(auto, unfolding(crate::specs::Reads::blank_costs))]
 pub fn costs_on(b: &UistBroker, room: usize) -> Lent<Result<usize, Fault>, [BrokerCost; 1024]>
     ensures { ReadOn b.now (cost_rows (money_of b.now.portfolio)) room blank_costs result.answer result.list }
 {
-    lend(
-        [BrokerCost::Flat(0.0); 1024],
-        room,
-        |list| uist::get_trade_costs(b, list),
-    )
+    let mut list = [BrokerCost::Flat(0.0); 1024];
+    let answer = lend(&mut list, room, |rows| uist::get_trade_costs(b, rows));
+    Lent { answer, list }
 }

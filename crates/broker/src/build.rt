@@ -1,7 +1,7 @@
 // The builder, and what a program keeps where no broker was made.
-ghost use Rattle.std.specs.Prelude.{◌≡◌};
+ghost use Rattle.std.specs.Prelude.{◌≡◌, IsSome};
 ghost use Rattle.std.specs.List.{list_all};
-ghost use Rattle.market.specs.Faults.{drawn};
+ghost use Rattle.market.specs.Faults.{drawn, ok_unless};
 ghost use Rattle.costs.specs.Kept.{costs_of};
 ghost use Rattle.costs.specs.Costs.{is_finite};
 ghost use Rattle.broker.specs.Build.{builder_tests, no_broker, build_of};
@@ -65,6 +65,34 @@ impl UistBroker {
                 lot: 0,
             },
         }
+    }
+
+    // A fresh broker for a log of `room` rows, in the place of this one, which stays where the builder is
+    // refused; the table's rows are the first latest quotes.
+    #[tactic(auto, unfolding(crate::specs::Build::build_of))]
+    pub fn build_in_place(
+        &mut self,
+        costs: TradeCosts,
+        lot: u32,
+        first: &ReadTable,
+        room: u64,
+    ) -> Option<Fault>
+        ensures built { build_of costs lot first.now.table room ≡ ok_unless result self.new }
+        ensures kept { IsSome result → self.new ≡ self.old }
+    {
+        let fault = builder_fault(costs, lot).or(first.fault());
+        if fault.is_none() {
+            *self = UistBroker {
+                exchange: UistV1::new(room),
+                portfolio: Portfolio {
+                    latest: first.table(),
+                    funds: Funds::none(),
+                    costs,
+                    lot,
+                },
+            };
+        }
+        fault
     }
 
     // A fresh broker for a log of `room` rows; the table's rows are the first latest quotes.

@@ -30,18 +30,12 @@ impl<R: CpuClock, W: Write> Caller<'_, R, W> {
         let lists = job.lists();
         let costs = job.costs();
         let from = clock::now(self.rt);
-        let built = arrays::build_on(costs, job.call.lot, &lists, log);
-        let answer = match built {
-            Ok(broker) => {
-                *b = broker;
-                Ok("built")
-            }
-            Err(fault) => {
-                *b = UistBroker::none();
-                Err(fault)
-            }
-        };
-        self.answer(from, &Form(answer))
+        let fault = arrays::build_in_place_on(b, costs, job.call.lot, &lists, log);
+        let micros = self.answer(from, &Form(ok_unless(fault, "built")))?;
+        if fault.is_some() {
+            *b = UistBroker::none();
+        }
+        Ok(micros)
     }
 
     #[inline(never)]

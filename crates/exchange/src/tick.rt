@@ -111,8 +111,8 @@ fn book_side(book: &mut [Booked; 1024], from: Numbered, waiting: &[Booked], sell
 }
 
 // Books the waiting orders, which stand in the book from a place on, behind those that are booked:
-// sells first, then buys. They are copied out of the book, as the sells among them may go where buys
-// still wait. What is asked follows from a tick's test for 16, too.
+// sells first, then buys. They are read off a copy of the book, as the sells among them may go where
+// buys still wait. What is asked follows from a tick's test for 16, too.
 fn book_waiting(book: &mut [Booked; 1024], behind: Numbered, from: usize, waits: usize) -> Numbered
     requires { (from + waits ≤ 1024) × (behind.at ≤ from) }
     ensures { booking book.new result ≡ book_waiting_of book.old from waits (booking book.old behind) }
@@ -158,7 +158,7 @@ fn refused(e: UistV1, fault: Fault) -> Ticked
 }
 
 impl UistV1 {
-    // A tick in place, which copies no state. One way through, refused or not: a tick that is refused
+    // A tick in place: the book is copied only where orders wait. One way through, refused or not: a tick that is refused
     // trades and books none.
     pub fn tick_in_place(&mut self, quotes: &ReadTable) -> Traded
         ensures { ticked_with self.new result ≡ tick_of self.old quotes.now.table }

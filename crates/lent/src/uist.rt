@@ -1,6 +1,6 @@
 // The broker on lent lists: tables, weights and orders to be read, the log of trades, and lists for
 // orders and events to be written.
-ghost use Rattle.std.specs.Prelude.{◌≡◌, MatchResult};
+ghost use Rattle.std.specs.Prelude.{◌≡◌, IsSome, MatchResult};
 ghost use Rattle.market.specs.Faults.{ok_unless};
 ghost use Rattle.rules.specs.Basis.{cost_basis};
 ghost use Rattle.turnover.specs.Turnover.{turnover};
@@ -80,6 +80,21 @@ pub fn build(
 {
     let t = ReadTable::of(first);
     UistBroker::build(costs, lot, t, log.len() as u64)
+}
+
+// The same in the place of another broker, which stays where this is refused.
+pub fn build_in_place(
+    broker: &mut UistBroker,
+    costs: TradeCosts,
+    lot: u32,
+    first: &[Quote],
+    log: &[Trade],
+) -> Option<Fault>
+    ensures built { build_for costs lot first.now log.now ≡ ok_unless result broker.new }
+    ensures kept { IsSome result → broker.new ≡ broker.old }
+{
+    let table = ReadTable::of(first);
+    broker.build_in_place(costs, lot, &table, log.len() as u64)
 }
 
 // Ticks on the tradable quotes, takes the fetched ones and books the trades, which become the log's

@@ -76,7 +76,6 @@ pub fn settle(mut funds: Funds, trades: &[Trade]) -> Funds
 }
 
 // The rows where each fetched row is its symbol's latest quote.
-#[tactic(auto, unfolding(crate::specs::Booking::merge_of))]
 fn merged(latest: &[Option<Quote>; 256], fetched: &Table) -> [Option<Quote>; 256]
     ensures { result ≡ merged_rows latest.now fetched.now }
 {

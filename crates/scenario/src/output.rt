@@ -13,6 +13,9 @@ pub(crate) struct Output<'b, P> {
     ghost in_buffer: { filled ≤ 65536 },
 }
 
+// Where so many bytes stand, they are written before the next.
+const FULL: usize = 65472;
+
 // Puts bytes where there is room for them.
 #[inline(always)]
 fn put(buffer: &mut [u8; 65536], at: usize, bytes: &[u8])
@@ -64,7 +67,7 @@ impl<P: Print> Write for Output<'_, P> {
     #[inline(always)]
     fn write_all(&mut self, bytes: &[u8]) -> io::Result<()> {
         let at = self.filled;
-        if bytes.len() > 65536 - at {
+        if at >= FULL || bytes.len() > 65536 - at {
             return self.write_long(bytes);
         }
         put(self.buffer, at, bytes);

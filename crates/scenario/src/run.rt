@@ -24,25 +24,29 @@ use text::failed::Failed;
 use text::input::{Line, Lines};
 
 // A run beside its input, its broker and its log: what tells the time, where the answers go, and what
-// is kept.
+// is kept. `reads_on` says whether the input is read once more where a write fails.
 #[derive(Drop)]
 struct Session<'a, R, W> {
     rt: &'a R,
     out: W,
     view: View,
+    reads_on: bool,
 }
 
 impl<R: CpuClock, W: Write> Session<'_, R, W> {
     // Writes the head of a line's answer, its number and its first word or `malformed`, and says when
-    // the line's call began.
+    // the line's call began. Where the head cannot be written, or an answer after which the broker is
+    // shown, the run ends without another read; where another answer cannot, it reads once more.
     fn begin(&mut self, line: Line<'_>, c: &Call) -> io::Result<Option<u64>> {
         let number = line.number;
-        if matches!(c.verb, Verb::Malformed) {
-            write!(self.out, "{number} malformed")?;
-        } else {
-            write!(self.out, "{number} ")?;
-            self.out.write_all(line.first_word())?;
-        }
+        let word = match c.verb {
+            Verb::Malformed => b"malformed",
+            _ => line.first_word(),
+        };
+        self.reads_on = false;
+        write!(self.out, "{number} ")?;
+        self.out.write_all(word)?;
+        self.reads_on = log_calls::needs_log(c) || !self.view.shows(c);
         Ok(clock::now(self.rt))
     }
 
@@ -141,6 +145,7 @@ impl<R: CpuClock, W: Write> Session<'_, R, W> {
 
     // Shows what the broker holds, where this line asks for it.
     fn show(&mut self, b: &UistBroker, c: &Call, log: &[Trade]) -> io::Result<()> {
+        self.reads_on = true;
         if !self.view.shows(c) {
             return Ok(());
         }
@@ -159,8 +164,8 @@ impl<R: CpuClock, W: Write> Session<'_, R, W> {
         input.next_line().map_err(Failed::Input)
     }
 
-    // Answers the input's lines. The broker that a deposit, a withdrawal or an order leaves is kept at
-    // once: behind another function it would be copied, which takes longer than the call.
+    // Answers the input's lines. The broker that a deposit or a withdrawal leaves is kept at once: behind
+    // another function it would be copied, which takes longer than the call.
     fn run_lines(
         &mut self,
         input: &mut Lines<'_, impl Read + Drop>,
@@ -206,12 +211,17 @@ fn first_broker() -> UistBroker {
     built.unwrap_or(UistBroker::none())
 }
 
-// Tells what kept the run from its end. Where an answer could not be written before more input is waited
-// for, the input is read once more all the same, and what fails there is told too.
-fn tell_end(rt: &impl Eprint, input: &mut Lines<'_, impl Read + Drop>, ended: Result<(), Failed>) {
-    let reads_on = matches!(ended, Err(Failed::Output(_)));
+// Tells what kept the run from its end. Where a write failed and the run reads on, the input is read once
+// more where a line has to be waited for, and what fails there is told too.
+fn tell_end(
+    rt: &impl Eprint,
+    input: &mut Lines<'_, impl Read + Drop>,
+    ended: Result<(), Failed>,
+    reads_on: bool,
+) {
+    let is_lost = matches!(ended, Err(Failed::Output(_)));
     failed::tell(rt, ended);
-    if reads_on {
+    if is_lost && reads_on {
         failed::tell(rt, input.read_on().map_err(Failed::Input));
     }
 }
@@ -230,9 +240,10 @@ fn run<const ROWS: usize>(rt: &(impl io::Input + Print + Eprint + CpuClock))
         rt,
         out: Output::new(rt, &mut written),
         view: View::new(),
+        reads_on: true,
     };
     let ended = session.run_lines(&mut input, &mut log);
-    tell_end(rt, &mut input, ended);
+    tell_end(rt, &mut input, ended, session.reads_on);
 }
 
 // A run whose log has at most 65,536 rows.
