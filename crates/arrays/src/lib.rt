@@ -140,15 +140,22 @@ pub fn send_on(b: UistBroker, x: &Orders) -> Lent<After<UistBroker>, [OrderEvent
 }
 
 // The walk alone; past the entries lent the array of orders stays blank.
-pub fn walk_on(b: &UistBroker, x: &Lists) -> Lent<Result<usize, Fault>, [Order; 1024]>
+pub fn walk_on_ref(b: &UistBroker, x: &Lists) -> Lent<Result<usize, Fault>, [Order; 1024]>
     ensures { AnswersWalk b.now (weights_in x.now) (lent_of x.now.room blank_orders) result.answer (lent_of x.now.room result.list) × (past_lent x.now.room result.list ≡ past_lent x.now.room blank_orders) }
 {
     let weights = &x.weights[..x.third.min(512)];
     let mut list = no_orders();
     let answer = lend(&mut list, x.room, |orders| {
-        uist::diff_against_target_weights(b, weights, orders)
+        uist::diff_against_target_weights_ref(b, weights, orders)
     });
     Lent { answer, list }
+}
+
+// The same, by value.
+pub fn walk_on(b: UistBroker, x: &Lists) -> Lent<Result<usize, Fault>, [Order; 1024]>
+    ensures { AnswersWalk b (weights_in x.now) (lent_of x.now.room blank_orders) result.answer (lent_of x.now.room result.list) × (past_lent x.now.room result.list ≡ past_lent x.now.room blank_orders) }
+{
+    walk_on_ref(&b, x)
 }
 
 // An update; its time is left free, and past the entries lent the array of events stays blank. It

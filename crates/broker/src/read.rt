@@ -49,17 +49,18 @@ impl UistBroker {
         self.fault().or((!finite).then_some(Fault::BadValue))
     }
 
-    // Each read below has the Rust's name and a clause of its own; all answer by `ok_unless`.
+    // Each read below has the Rust's name, with `_ref` where the broker is lent, and a clause of its own;
+    // all but that of the state answer by `ok_unless`.
 
     // The latest quote of a symbol.
-    pub fn get_quote(&self, symbol: u32) -> Result<Option<Quote>, Fault>
+    pub fn get_quote_ref(&self, symbol: u32) -> Result<Option<Quote>, Fault>
         ensures { result ≡ ok_unless (symbol_fault self.now symbol) (quote_of self.now symbol) }
     {
         ok_unless(self.symbol_fault(symbol), self.portfolio.latest.row(symbol))
     }
 
     // How much of a symbol is held.
-    pub fn get_position_qty(&self, symbol: u32) -> Result<Option<f64>, Fault>
+    pub fn get_position_qty_ref(&self, symbol: u32) -> Result<Option<f64>, Fault>
         ensures { result ≡ ok_unless (symbol_fault self.now symbol) (holding_of self.now symbol) }
     {
         let holding = self.portfolio.funds.holding_of(symbol);
@@ -67,7 +68,7 @@ impl UistBroker {
     }
 
     // The pending quantity of a symbol.
-    pub fn get_pending_order(&self, symbol: u32) -> Result<Option<f64>, Fault>
+    pub fn get_pending_order_ref(&self, symbol: u32) -> Result<Option<f64>, Fault>
         ensures { result ≡ ok_unless (symbol_fault self.now symbol) (pending_of self.now symbol) }
     {
         let pending = pending_at(&self.portfolio.funds.pending, symbol);
@@ -75,14 +76,14 @@ impl UistBroker {
     }
 
     // The value of a position.
-    pub fn get_position_value(&self, symbol: u32) -> Result<Option<f64>, Fault>
+    pub fn get_position_value_ref(&self, symbol: u32) -> Result<Option<f64>, Fault>
         ensures { result ≡ ok_unless (symbol_fault self.now symbol) (value_here self.now symbol) }
     {
         ok_unless(self.symbol_fault(symbol), self.portfolio.value_of(symbol))
     }
 
     // What the broker's costs leave of a position's value in a sale.
-    pub fn get_position_liquidation_value(&self, symbol: u32) -> Result<Option<f64>, Fault>
+    pub fn get_position_liquidation_value_ref(&self, symbol: u32) -> Result<Option<f64>, Fault>
         ensures { result ≡ ok_unless (symbol_fault self.now symbol) (value_sold self.now symbol) }
     {
         let value = self.portfolio.value_of(symbol);
@@ -90,26 +91,26 @@ impl UistBroker {
         ok_unless(self.symbol_fault(symbol), sold)
     }
 
-    pub fn get_total_value(&self) -> Result<f64, Fault>
+    pub fn get_total_value_ref(&self) -> Result<f64, Fault>
         ensures { result ≡ ok_unless (broker_fault self.now) (total_of self.now) }
     {
         ok_unless(self.fault(), self.portfolio.get_total_value())
     }
 
-    pub fn get_liquidation_value(&self) -> Result<f64, Fault>
+    pub fn get_liquidation_value_ref(&self) -> Result<f64, Fault>
         ensures { result ≡ ok_unless (broker_fault self.now) (liquidation_of self.now) }
     {
         ok_unless(self.fault(), self.portfolio.get_liquidation_value())
     }
 
-    pub fn get_cash_balance(&self) -> Result<f64, Fault>
+    pub fn get_cash_balance_ref(&self) -> Result<f64, Fault>
         ensures { result ≡ ok_unless (broker_fault self.now) (cash_here self.now) }
     {
         ok_unless(self.fault(), self.portfolio.funds.cash)
     }
 
     // Ready or Failed, which is told with 16 too: a `Result` would promise less.
-    pub fn get_broker_state(&self) -> After<BrokerState>
+    pub fn get_broker_state_ref(&self) -> After<BrokerState>
         ensures { ReadsState self.now.portfolio.funds.failed (broker_fault self.now) result }
     {
         After {
@@ -123,14 +124,14 @@ impl UistBroker {
     }
 
     // How many trades are in the log.
-    pub fn executed_trade_count(&self) -> Result<u64, Fault>
+    pub fn executed_trade_count_ref(&self) -> Result<u64, Fault>
         ensures { result ≡ ok_unless (broker_fault self.now) self.now.exchange.counts.logged }
     {
         ok_unless(self.fault(), self.exchange.counts.logged)
     }
 
     // What the broker's costs leave of a budget and a price.
-    pub fn trade_impact_total(
+    pub fn trade_impact_total_ref(
         &self,
         gross_budget: f64,
         gross_price: f64,
@@ -144,10 +145,90 @@ impl UistBroker {
     }
 
     // What the broker's costs charge on a trade.
-    pub fn calculate_trade_costs(&self, quantity: f64, value: f64) -> Result<f64, Fault>
+    pub fn calculate_trade_costs_ref(&self, quantity: f64, value: f64) -> Result<f64, Fault>
         ensures { result ≡ ok_unless (amounts_fault self.now quantity value) (costs_here self.now quantity value) }
     {
         let fault = self.amounts_fault(quantity, value);
         ok_unless(fault, costs::charges(self.portfolio.costs, quantity, value))
+    }
+}
+
+// The same reads, by value.
+impl UistBroker {
+    pub fn get_quote(self, symbol: u32) -> Result<Option<Quote>, Fault>
+        ensures { result ≡ ok_unless (symbol_fault self symbol) (quote_of self symbol) }
+    {
+        self.get_quote_ref(symbol)
+    }
+
+    pub fn get_position_qty(self, symbol: u32) -> Result<Option<f64>, Fault>
+        ensures { result ≡ ok_unless (symbol_fault self symbol) (holding_of self symbol) }
+    {
+        self.get_position_qty_ref(symbol)
+    }
+
+    pub fn get_pending_order(self, symbol: u32) -> Result<Option<f64>, Fault>
+        ensures { result ≡ ok_unless (symbol_fault self symbol) (pending_of self symbol) }
+    {
+        self.get_pending_order_ref(symbol)
+    }
+
+    pub fn get_position_value(self, symbol: u32) -> Result<Option<f64>, Fault>
+        ensures { result ≡ ok_unless (symbol_fault self symbol) (value_here self symbol) }
+    {
+        self.get_position_value_ref(symbol)
+    }
+
+    pub fn get_position_liquidation_value(self, symbol: u32) -> Result<Option<f64>, Fault>
+        ensures { result ≡ ok_unless (symbol_fault self symbol) (value_sold self symbol) }
+    {
+        self.get_position_liquidation_value_ref(symbol)
+    }
+
+    pub fn get_total_value(self) -> Result<f64, Fault>
+        ensures { result ≡ ok_unless (broker_fault self) (total_of self) }
+    {
+        self.get_total_value_ref()
+    }
+
+    pub fn get_liquidation_value(self) -> Result<f64, Fault>
+        ensures { result ≡ ok_unless (broker_fault self) (liquidation_of self) }
+    {
+        self.get_liquidation_value_ref()
+    }
+
+    pub fn get_cash_balance(self) -> Result<f64, Fault>
+        ensures { result ≡ ok_unless (broker_fault self) (cash_here self) }
+    {
+        self.get_cash_balance_ref()
+    }
+
+    pub fn get_broker_state(self) -> After<BrokerState>
+        ensures { ReadsState self.portfolio.funds.failed (broker_fault self) result }
+    {
+        self.get_broker_state_ref()
+    }
+
+    pub fn executed_trade_count(self) -> Result<u64, Fault>
+        ensures { result ≡ ok_unless (broker_fault self) self.exchange.counts.logged }
+    {
+        self.executed_trade_count_ref()
+    }
+
+    pub fn trade_impact_total(
+        self,
+        gross_budget: f64,
+        gross_price: f64,
+        is_buy: bool,
+    ) -> Result<Impact, Fault>
+        ensures { result ≡ ok_unless (amounts_fault self gross_budget gross_price) (impact_of self gross_budget gross_price is_buy) }
+    {
+        self.trade_impact_total_ref(gross_budget, gross_price, is_buy)
+    }
+
+    pub fn calculate_trade_costs(self, quantity: f64, value: f64) -> Result<f64, Fault>
+        ensures { result ≡ ok_unless (amounts_fault self quantity value) (costs_here self quantity value) }
+    {
+        self.calculate_trade_costs_ref(quantity, value)
     }
 }

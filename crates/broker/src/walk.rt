@@ -10,7 +10,7 @@ use portfolio::list::OrderList;
 impl UistBroker {
     // The walk on weights that were read of `rows` rows, for a list of `room` orders.
     #[tactic(auto, unfolding(crate::specs::Walk::walk_fault))]
-    pub fn diff_against_target_weights(
+    pub fn diff_against_target_weights_ref(
         &self,
         weights: Weights,
         rows: usize,
@@ -23,5 +23,18 @@ impl UistBroker {
             return Err(fault);
         }
         self.portfolio.diff_against_target_weights(&weights)
+    }
+
+    // The same, by value.
+    pub fn diff_against_target_weights(
+        self,
+        weights: Weights,
+        rows: usize,
+        room: usize,
+    ) -> Result<OrderList, Fault>
+        ensures plan { Walks self weights rows room result }
+        ensures few { IfOk result (λ list. list.count ≤ 256) }
+    {
+        self.diff_against_target_weights_ref(weights, rows, room)
     }
 }

@@ -7,7 +7,12 @@ pub mod list_calls;
 pub mod log_calls;
 pub mod plain_calls;
 
+ghost use Rattle.std.specs.Prelude.{◌≡◌};
+
 use arrays::clock;
+use broker::state::UistBroker;
+use calls::call::Call;
+use market::trade::Trade;
 use std::fmt::Display;
 use std::io;
 use std::io::Write;
@@ -27,5 +32,47 @@ impl<R: CpuClock, W: Write> Caller<'_, R, W> {
         let micros = clock::since(self.rt, from);
         writeln!(self.out, " {answer}")?;
         Ok(micros)
+    }
+}
+
+// A line's call with what makes it: a `Caller` and a `line_lists::Job` in one.
+#[derive(Drop)]
+pub struct Job<'a, R, W> {
+    pub rt: &'a R,
+    pub out: &'a mut W,
+    pub line: &'a [u8],
+    pub call: &'a Call,
+}
+
+impl<'a, R: CpuClock, W: Write> Job<'a, R, W> {
+    fn job(&self) -> line_lists::Job<'a> {
+        line_lists::Job {
+            line: self.line,
+            call: self.call,
+        }
+    }
+
+    // `Caller::on_lists` of this line.
+    pub fn on_lists(&mut self, b: &mut UistBroker) -> io::Result<u64>
+        ensures { (self.new.line ≡ self.old.line) × (self.new.call ≡ self.old.call) }
+    {
+        let job = self.job();
+        let mut caller = Caller {
+            rt: self.rt,
+            out: self.out,
+        };
+        caller.on_lists(job, b)
+    }
+
+    // `Caller::on_log` of this line.
+    pub fn on_log(&mut self, b: &mut UistBroker, log: &mut [Trade]) -> io::Result<u64>
+        ensures { (self.new.line ≡ self.old.line) × (self.new.call ≡ self.old.call) }
+    {
+        let job = self.job();
+        let mut caller = Caller {
+            rt: self.rt,
+            out: self.out,
+        };
+        caller.on_log(job, b, log)
     }
 }

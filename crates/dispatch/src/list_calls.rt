@@ -59,7 +59,7 @@ impl<R: CpuClock, W: Write> Caller<'_, R, W> {
     fn walk(&mut self, job: Job<'_>, b: &UistBroker) -> io::Result<u64> {
         let lists = job.lists();
         let from = clock::now(self.rt);
-        self.answer(from, &rows(&arrays::walk_on(b, &lists)))
+        self.answer(from, &rows(&arrays::walk_on_ref(b, &lists)))
     }
 
     #[inline(never)]
@@ -73,27 +73,27 @@ impl<R: CpuClock, W: Write> Caller<'_, R, W> {
     // Each read of a list is a function of its own: one with the lists of all would pay for them at each.
     #[inline(never)]
     fn positions(&mut self, from: Option<u64>, b: &UistBroker, room: usize) -> io::Result<u64> {
-        self.answer(from, &rows(&read::positions_on(b, room)))
+        self.answer(from, &rows(&read::positions_on_ref(b, room)))
     }
 
     #[inline(never)]
     fn holdings(&mut self, from: Option<u64>, b: &UistBroker, room: usize) -> io::Result<u64> {
-        self.answer(from, &rows(&read::holdings_on(b, room)))
+        self.answer(from, &rows(&read::holdings_on_ref(b, room)))
     }
 
     #[inline(never)]
     fn pending(&mut self, from: Option<u64>, b: &UistBroker, room: usize) -> io::Result<u64> {
-        self.answer(from, &rows(&read::pending_on(b, room)))
+        self.answer(from, &rows(&read::pending_on_ref(b, room)))
     }
 
     #[inline(never)]
     fn quotes(&mut self, from: Option<u64>, b: &UistBroker, room: usize) -> io::Result<u64> {
-        self.answer(from, &rows(&read::quotes_on(b, room)))
+        self.answer(from, &rows(&read::quotes_on_ref(b, room)))
     }
 
     #[inline(never)]
     fn costs(&mut self, from: Option<u64>, b: &UistBroker, room: usize) -> io::Result<u64> {
-        self.answer(from, &rows(&read::costs_on(b, room)))
+        self.answer(from, &rows(&read::costs_on_ref(b, room)))
     }
 
     fn read(&mut self, job: Job<'_>, b: &UistBroker) -> io::Result<u64> {

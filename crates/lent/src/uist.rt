@@ -144,7 +144,7 @@ pub fn send_orders(
 }
 
 // The walk alone: its orders are written to the lent list.
-pub fn diff_against_target_weights(
+pub fn diff_against_target_weights_ref(
     broker: &UistBroker,
     weights: &[Weight],
     orders: &mut [Order],
@@ -152,10 +152,21 @@ pub fn diff_against_target_weights(
     ensures { AnswersWalk broker.now weights.now orders.old result orders.new }
 {
     let w = Weights::of(weights);
-    let listed = broker.diff_against_target_weights(w, weights.len(), orders.len())?;
+    let listed = broker.diff_against_target_weights_ref(w, weights.len(), orders.len())?;
     let list = listed.orders();
     slices::store(orders, 0, list);
     Ok(list.len())
+}
+
+// The same, by value.
+pub fn diff_against_target_weights(
+    broker: UistBroker,
+    weights: &[Weight],
+    orders: &mut [Order],
+) -> Result<usize, Fault>
+    ensures { AnswersWalk broker weights.now orders.old result orders.new }
+{
+    diff_against_target_weights_ref(&broker, weights, orders)
 }
 
 // A check, then the orders that the weights come to; each has its own event, in its place.

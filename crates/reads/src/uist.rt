@@ -16,7 +16,7 @@ use portfolio::value::unless_zero;
 use std::array;
 
 // The symbols that are held.
-pub fn get_positions(broker: &UistBroker, positions: &mut [u32]) -> Result<usize, Fault>
+pub fn get_positions_ref(broker: &UistBroker, positions: &mut [u32]) -> Result<usize, Fault>
     ensures { AnswersList broker.now (position_rows (money_of broker.now.portfolio)) positions.old result positions.new }
 {
     let holding = &broker.portfolio.funds.holding;
@@ -26,7 +26,7 @@ pub fn get_positions(broker: &UistBroker, positions: &mut [u32]) -> Result<usize
 
 // How much is held of each symbol that is. This and the pending quantities below have a reader each:
 // another field, and another rule for zero; what they share is `Holding::of` and `answer`.
-pub fn get_holdings(broker: &UistBroker, holdings: &mut [Holding]) -> Result<usize, Fault>
+pub fn get_holdings_ref(broker: &UistBroker, holdings: &mut [Holding]) -> Result<usize, Fault>
     ensures { AnswersList broker.now (holding_rows (money_of broker.now.portfolio)) holdings.old result holdings.new }
 {
     let holding = &broker.portfolio.funds.holding;
@@ -38,7 +38,7 @@ pub fn get_holdings(broker: &UistBroker, holdings: &mut [Holding]) -> Result<usi
 }
 
 // The pending quantities, a sum of zero too.
-pub fn get_pending_orders(broker: &UistBroker, pending: &mut [Holding]) -> Result<usize, Fault>
+pub fn get_pending_orders_ref(broker: &UistBroker, pending: &mut [Holding]) -> Result<usize, Fault>
     ensures { AnswersList broker.now (pending_rows (money_of broker.now.portfolio)) pending.old result pending.new }
 {
     let quantities = &broker.portfolio.funds.pending;
@@ -50,7 +50,7 @@ pub fn get_pending_orders(broker: &UistBroker, pending: &mut [Holding]) -> Resul
 }
 
 // The latest quotes; where the Rust answers `None`, no row.
-pub fn get_quotes(broker: &UistBroker, quotes: &mut [Quote]) -> Result<usize, Fault>
+pub fn get_quotes_ref(broker: &UistBroker, quotes: &mut [Quote]) -> Result<usize, Fault>
     ensures { AnswersList broker.now (quote_rows (money_of broker.now.portfolio)) quotes.old result quotes.new }
 {
     answer(broker, whole(&broker.portfolio.latest.rows), quotes)
@@ -58,13 +58,44 @@ pub fn get_quotes(broker: &UistBroker, quotes: &mut [Quote]) -> Result<usize, Fa
 
 // The broker's trade costs, in order.
 #[tactic(auto, unfolding(crate::specs::Rows::cost_rows, crate::specs::Answers::read_of))]
-pub fn get_trade_costs(broker: &UistBroker, costs: &mut [BrokerCost]) -> Result<usize, Fault>
+pub fn get_trade_costs_ref(broker: &UistBroker, costs: &mut [BrokerCost]) -> Result<usize, Fault>
     ensures { AnswersList broker.now (cost_rows (money_of broker.now.portfolio)) costs.old result costs.new }
 {
     let rows = broker.portfolio.costs.costs();
     fits(broker, rows.len(), costs.len())?;
     costs[..rows.len()].copy_from_slice(rows);
     Ok(rows.len())
+}
+
+// The same reads, by value.
+pub fn get_positions(broker: UistBroker, positions: &mut [u32]) -> Result<usize, Fault>
+    ensures { AnswersList broker (position_rows (money_of broker.portfolio)) positions.old result positions.new }
+{
+    get_positions_ref(&broker, positions)
+}
+
+pub fn get_holdings(broker: UistBroker, holdings: &mut [Holding]) -> Result<usize, Fault>
+    ensures { AnswersList broker (holding_rows (money_of broker.portfolio)) holdings.old result holdings.new }
+{
+    get_holdings_ref(&broker, holdings)
+}
+
+pub fn get_pending_orders(broker: UistBroker, pending: &mut [Holding]) -> Result<usize, Fault>
+    ensures { AnswersList broker (pending_rows (money_of broker.portfolio)) pending.old result pending.new }
+{
+    get_pending_orders_ref(&broker, pending)
+}
+
+pub fn get_quotes(broker: UistBroker, quotes: &mut [Quote]) -> Result<usize, Fault>
+    ensures { AnswersList broker (quote_rows (money_of broker.portfolio)) quotes.old result quotes.new }
+{
+    get_quotes_ref(&broker, quotes)
+}
+
+pub fn get_trade_costs(broker: UistBroker, costs: &mut [BrokerCost]) -> Result<usize, Fault>
+    ensures { AnswersList broker (cost_rows (money_of broker.portfolio)) costs.old result costs.new }
+{
+    get_trade_costs_ref(&broker, costs)
 }
 
 // An array of 256 rows as a list. Of a field behind a reference a proof does not know the length, which

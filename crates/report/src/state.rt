@@ -15,11 +15,11 @@ pub struct State<'a, W> {
 
 impl<W: Write> State<'_, W> {
     fn money(&mut self) -> io::Result<()> {
-        let cash = Form(self.broker.get_cash_balance());
-        let state = Form(self.broker.get_broker_state().state);
+        let cash = Form(self.broker.get_cash_balance_ref());
+        let state = Form(self.broker.get_broker_state_ref().state);
         write!(self.out, " cash {cash} state {state}")?;
-        let total = Form(self.broker.get_total_value());
-        let liquidation = Form(self.broker.get_liquidation_value());
+        let total = Form(self.broker.get_total_value_ref());
+        let liquidation = Form(self.broker.get_liquidation_value_ref());
         let turnover = Form(self.turnover);
         writeln!(
             self.out,
@@ -79,7 +79,7 @@ impl<W: Write> State<'_, W> {
             let refused = Form(self.turnover);
             write!(self.out, " {refused}")?;
         }
-        let count = self.broker.executed_trade_count().unwrap_or(0);
+        let count = self.broker.executed_trade_count_ref().unwrap_or(0);
         write!(self.out, "\n trades {count}")
     }
 

@@ -29,7 +29,7 @@ fn logged<'a>(state: &State<'_, impl Write>, log: &'a [Trade]) -> &'a [Trade] {
     if state.turnover.is_err() {
         return &log[..0];
     }
-    let count = state.broker.executed_trade_count().unwrap_or(0);
+    let count = state.broker.executed_trade_count_ref().unwrap_or(0);
     let count = usize::try_from(count).unwrap_or(log.len());
     &log[..count.min(log.len())]
 }
@@ -42,7 +42,7 @@ pub(crate) fn show(
     broker: &UistBroker,
     log: &[Trade],
 ) -> io::Result<()> {
-    if let Err(fault) = broker.get_cash_balance() {
+    if let Err(fault) = broker.get_cash_balance_ref() {
         return writeln!(out, " refused {fault}");
     }
     let turnover = uist::turnover(*broker, log);

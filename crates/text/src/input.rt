@@ -4,10 +4,12 @@ ghost use Rattle.std.specs.Option.{ForSome};
 ghost use Rattle.calls.specs.declared.verb.Verb.TheVariants.{Malformed};
 ghost use Rattle.calls.specs.Calls.{plain_call};
 
+use crate::owned_input::OwnedInput;
 use calls::call;
 use calls::call::Call;
 use calls::verb::Verb;
 use reasons::Reason;
+use std::alloc::Global;
 use std::io;
 use std::io::{ErrorKind, Read};
 
@@ -67,7 +69,7 @@ impl<'a> Line<'a> {
 }
 
 // The most bytes that a line may have, its newline among them.
-const ROOM: usize = 65536;
+pub(crate) const ROOM: usize = 65536;
 
 // Where a reader of lines stands in its buffer: the first `filled` bytes were read, and those from
 // `next` on are of later lines, the first of which ends before `end`, where its end was read. `number`
@@ -101,6 +103,13 @@ impl Input {
             skips: false,
             has_ended: false,
         }
+    }
+
+    // A reader of lines that keeps its buffers itself, for a caller that lends none.
+    pub fn new<R: Read + Drop>(alloc: Global, reader: R) -> io::Result<OwnedInput<R>>
+        ensures { IfOk result (λ input. (input.has_ended ≡ false) × (input.number ≡ 0)) }
+    {
+        OwnedInput::new(alloc, reader)
     }
 }
 

@@ -4,3 +4,4 @@
 
 pub mod failed;
 pub mod input;
+pub mod owned_input;

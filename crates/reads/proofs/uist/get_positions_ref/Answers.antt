@@ -1,9 +1,9 @@
--- `get_pending_orders`: the rows of the symbols that have one.
+-- `get_positions_ref`: the rows of the symbols that have one.
 use Rattle.std.proofs.Common.{rules}
-use Rattle.reads.specs.Rows.{pending_rows}
+use Rattle.reads.specs.Rows.{position_rows}
 use Rattle.reads.proofs.BySymbol.{made, same_rows}
-use Rattle.reads.proofs.uist.get_pending_orders.Goals as goal
+use Rattle.reads.proofs.uist.get_positions_ref.Goals as goal
 
 pub returns : goal.returns
-unfolding pending_rows
+unfolding position_rows
 returns c = same_rows (made _ _ _ _ (λ s r q h k. search rules) c.from_fn-rows.ensures.items) c.answer.ensures
